@@ -1,0 +1,3 @@
+/// The answer of a call for which no memory was left.
+#[derive(Clone, Copy, Debug, PartialEq, Eq)]
+pub struct Memory;

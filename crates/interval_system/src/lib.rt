@@ -1,0 +1,2 @@
+//! The radiosity equations of a scene in intervals of ticks, and the definitions of what their numbers mean.
+#![tactic(auto)]
