@@ -1,7 +1,15 @@
--- What the numbers of the program stand for.
-use Rattle.std.specs.Prelude.{ℕ, ◌^◌}
+-- What the numbers of the program stand for. A span, a weight and a bracket stand for intervals; their ends aren't negative where
+-- one of these words is used.
+use Rattle.std.specs.Prelude.{ℕ, ℤ, pos, negsuc}
 use Rattle.std.proofs.Math.Nat.{zero-lt-suc}
 use Rattle.fx_base.specs.Fraction.{Fraction}
+use Rattle.fx_base.specs.Interval.{Interval}
+use Rattle.fx_base.specs.Ends.{Ends}
+
+-- the whole number, and 0 in place of a negative one
+abbrev pub natural : ℤ → ℕ
+natural (pos n) = n
+natural (negsuc n) = 0
 
 -- t ticks of 2^-36
 unfoldable pub ticks : ℕ → Fraction
@@ -10,3 +18,6 @@ ticks t = record { num = t; den = 68719476736; positive = zero-lt-suc 6871947673
 -- m millionths
 unfoldable pub millionths : ℕ → Fraction
 millionths m = record { num = m; den = 1000000; positive = zero-lt-suc 999999 }
+
+abbrev pub of_span : Ends → Interval
+of_span s = record { lo = ticks (natural s.lo); hi = ticks (natural s.hi) }

@@ -2,6 +2,16 @@
 //! that keep it there. `specs/` has the fractions and intervals in which every theorem of Lux is stated.
 #![tactic(auto)]
 
+mod cents;
 mod memory;
+mod micro;
+mod span;
+mod tick;
+mod weight;
 
+pub use cents::{ceil_cent, floor_cent};
 pub use memory::Memory;
+pub use micro::{Bracket, Micro};
+pub use span::Span;
+pub use tick::{Tick, magnitude, tick_of};
+pub use weight::Weight;
