@@ -1,0 +1,230 @@
+-- The room that a layout text describes, or the first fault in the order of checking. One rule for each key.
+use Rattle.std.specs.Prelude.{ℕ, ◌+◌, ◌*◌, ◌==◌, Bool, true, false, not, ◌&&◌, nat_le, nat_lt, if◌then◌else◌, List, [], ◌∷◌, ◌++◌, length, position, Option, Some, None, slice_index, Result, Ok, Err, codes}
+use Rattle.std.specs.Str.{is_utf8, bytes_eq}
+use Rattle.toml.specs.Data.{Data, Members, get_member}
+use Rattle.toml.specs.Parse.{parse_document}
+use Rattle.room_layout.specs.Checks.{◌>>=◌, demand, spot, required, optional, where_given, number, numbers, name_text, table_with, elements, has_only}
+use Rattle.room_layout.specs.Served.{is_unserved}
+use Rattle.room_layout.specs.declared.fault.Key.TheVariants as key
+use Rattle.room_layout.specs.declared.fault.Spot.{Spot}
+use Rattle.room_layout.specs.declared.fault.RoomFault.{RoomFault}
+use Rattle.room_layout.specs.declared.fault.RoomFault.TheVariants as fault
+use Rattle.room_layout.specs.declared.geometry.Size.{Size}
+use Rattle.room_layout.specs.declared.room.Reflects.{Reflects}
+use Rattle.room_layout.specs.declared.room.Block.{Block}
+use Rattle.room_layout.specs.declared.room.Lamp.{Lamp}
+use Rattle.room_layout.specs.declared.room.Shine.{Shine}
+use Rattle.room_layout.specs.declared.room.Shine.TheVariants.{Even, File}
+use Rattle.room_layout.specs.declared.room.FileUse.{FileUse}
+use Rattle.room_layout.specs.declared.room.TaskGrid.{TaskGrid}
+use Rattle.room_layout.specs.declared.room.Limits.{Limits}
+use Rattle.room_layout.specs.declared.room.Room.{Room}
+use Rattle.room_layout.specs.declared.parts.Shell.{Shell}
+use Rattle.room_layout.specs.declared.parts.Lit.{Lit}
+
+-- ---- sizes
+
+abbrev pub size_from : List ℕ → Size
+size_from ns = record { x = slice_index ns 0; y = slice_index ns 1; z = slice_index ns 2 }
+
+-- the first passes the second on no axis
+abbrev pub fits_in : Size → Size → Bool
+fits_in a b = nat_le a.x b.x && nat_le a.y b.y && nat_le a.z b.z
+
+-- the first is above the second on every axis
+abbrev pub is_above : Size → Size → Bool
+is_above a b = nat_lt b.x a.x && nat_lt b.y a.y && nat_lt b.z a.z
+
+-- ---- the room's own table
+
+abbrev pub reflects_from : List ℕ → Reflects
+reflects_from ns = record { floor = slice_index ns 0; ceiling = slice_index ns 1; x0 = slice_index ns 2; x1 = slice_index ns 3; y0 = slice_index ns 4; y1 = slice_index ns 5 }
+
+abbrev pub room_keys : List (List ℕ)
+room_keys = codes "size" ∷ codes "reflect" ∷ codes "patch" ∷ []
+
+unfoldable pub shell_of : Members → Result Shell RoomFault
+shell_of document = do
+  room ← required (spot key.Room 0) (table_with room_keys) (get_member (codes "room") document)
+  size ← required (spot key.RoomSize 0) (numbers 3 500 50000) (get_member (codes "size") room)
+  reflect ← optional (0 ∷ 0 ∷ 0 ∷ 0 ∷ 0 ∷ 0 ∷ []) (spot key.RoomReflect 0) (numbers 6 0 950) (get_member (codes "reflect") room)
+  patch ← optional 600 (spot key.RoomPatch 0) (number 50 50000) (get_member (codes "patch") room)
+  Ok (record { size = size_from size; reflect = reflects_from reflect; patch = patch })
+
+-- ---- boxes
+
+abbrev pub box_keys : List (List ℕ)
+box_keys = codes "lo" ∷ codes "hi" ∷ codes "reflect" ∷ []
+
+-- box i of a room of this size
+unfoldable pub block_of : Size → ℕ → Data → Result Block RoomFault
+block_of room i d = do
+  box ← table_with box_keys (spot key.Box i) d
+  lo ← required (spot key.BoxLo i) (numbers 3 0 50000) (get_member (codes "lo") box)
+  hi ← required (spot key.BoxHi i) (numbers 3 0 50000) (get_member (codes "hi") box)
+  reflect ← optional 0 (spot key.BoxReflect i) (number 0 950) (get_member (codes "reflect") box)
+  above ← demand (is_above (size_from hi) (size_from lo)) (fault.Range (spot key.BoxHi i))
+  inside ← demand (fits_in (size_from hi) room) (fault.Outside (spot key.Box i))
+  Ok (record { lo = size_from lo; hi = size_from hi; reflect = reflect })
+
+-- the boxes from box i on
+abbrev pub blocks_from : Size → ℕ → List Data → Result (List Block) RoomFault
+blocks_from room i [] = Ok []
+blocks_from room i (d ∷ ds) = block_of room i d >>= λ b. blocks_from room (i + 1) ds >>= λ bs. Ok (b ∷ bs)
+
+unfoldable pub blocks_of : Size → Members → Result (List Block) RoomFault
+blocks_of room document = optional [] (spot key.Box 0) (elements 64) (get_member (codes "box") document) >>= blocks_from room 0
+
+-- ---- lamps
+
+abbrev pub is_same_use : FileUse → FileUse → Bool
+is_same_use a b = bytes_eq a.name b.name && (a.set == b.set)
+
+-- the index of a use whose place in the list is known, and the list with it
+abbrev pub placed_at : FileUse → List FileUse → Option ℕ → ℕ × List FileUse
+placed_at f files (Some k) = (k, files)
+placed_at f files None = (length files, files ++ f ∷ [])
+
+abbrev pub placed : FileUse → List FileUse → ℕ × List FileUse
+placed f files = placed_at f files (position (is_same_use f) files)
+
+-- how lamp i shines, and the files after it
+unfoldable pub shine_of : ℕ → List FileUse → ℕ → Option ℕ → Option (List ℕ) → Result (Shine × List FileUse) RoomFault
+shine_of i files set None None = Err (fault.Missing (spot key.LampCandela i))
+shine_of i files set (Some candela) (Some name) = Err (fault.Kind (spot key.LampFile i))
+shine_of i files set (Some candela) None = Ok (Even candela, files)
+shine_of i files set None (Some name) = let (index, more) = placed (record { name = name; set = set }) files in Ok (File index, more)
+
+-- half of the size on either side of the place is within the edge
+abbrev pub has_margin : ℕ → ℕ → ℕ → Bool
+has_margin at size edge = nat_le size (2 * at) && nat_le (2 * at + size) (2 * edge)
+
+-- a lamp of this size in both directions at this place is within a room
+abbrev pub is_lamp_inside : Size → List ℕ → Size → Bool
+is_lamp_inside at size room = fits_in at room && has_margin at.x (slice_index size 0) room.x && has_margin at.y (slice_index size 1) room.y
+
+abbrev pub lamp_keys : List (List ℕ)
+lamp_keys = codes "at" ∷ codes "candela" ∷ codes "file" ∷ codes "set" ∷ codes "turn" ∷ codes "maintenance" ∷ codes "size" ∷ codes "split" ∷ []
+
+-- lamp i of a room of this size where these files are used before it, and the files after it
+unfoldable pub lamp_of : Size → ℕ → List FileUse → Data → Result (Lamp × List FileUse) RoomFault
+lamp_of room i files d = do
+  lamp ← table_with lamp_keys (spot key.Lamp i) d
+  at ← required (spot key.LampAt i) (numbers 3 0 50000) (get_member (codes "at") lamp)
+  candela ← where_given (spot key.LampCandela i) (number 0 10000000) (get_member (codes "candela") lamp)
+  file ← where_given (spot key.LampFile i) name_text (get_member (codes "file") lamp)
+  set ← optional 1 (spot key.LampSet i) (number 1 20) (get_member (codes "set") lamp)
+  turn ← optional 0 (spot key.LampTurn i) (number 0 359) (get_member (codes "turn") lamp)
+  maintenance ← optional 1000 (spot key.LampMaintenance i) (number 0 1000) (get_member (codes "maintenance") lamp)
+  size ← optional (0 ∷ 0 ∷ []) (spot key.LampSize i) (numbers 2 0 5000) (get_member (codes "size") lamp)
+  split ← optional (1 ∷ 1 ∷ []) (spot key.LampSplit i) (numbers 2 1 8) (get_member (codes "split") lamp)
+  lit ← shine_of i files set candela file
+  inside ← demand (is_lamp_inside (size_from at) size room) (fault.Outside (spot key.Lamp i))
+  few ← demand (nat_le (length lit.1) 16) (fault.TooMany (spot key.LampFile i))
+  Ok (
+    record {
+      at = size_from at;
+      shine = lit.0;
+      turn = turn;
+      maintenance = maintenance;
+      size_x = slice_index size 0;
+      size_y = slice_index size 1;
+      split_x = slice_index split 0;
+      split_y = slice_index split 1;
+    },
+    lit.1,
+  )
+
+-- the lamps from lamp i on
+abbrev pub lamps_from : Size → ℕ → List FileUse → List Data → Result Lit RoomFault
+lamps_from room i files [] = Ok (record { lamps = []; files = files })
+lamps_from room i files (d ∷ ds) = lamp_of room i files d >>= λ l. lamps_from room (i + 1) l.1 ds >>= λ r. Ok (record { lamps = l.0 ∷ r.lamps; files = r.files })
+
+unfoldable pub lamps_of : Size → Members → Result Lit RoomFault
+lamps_of room document = optional [] (spot key.Lamp 0) (elements 256) (get_member (codes "lamp") document) >>= lamps_from room 0 []
+
+-- ---- the task
+
+abbrev pub task_keys : List (List ℕ)
+task_keys = codes "from" ∷ codes "to" ∷ codes "height" ∷ codes "points" ∷ []
+
+unfoldable pub task_of : Size → Members → Result TaskGrid RoomFault
+task_of room document = do
+  task ← required (spot key.Task 0) (table_with task_keys) (get_member (codes "task") document)
+  from ← required (spot key.TaskFrom 0) (numbers 2 0 50000) (get_member (codes "from") task)
+  to ← required (spot key.TaskTo 0) (numbers 2 0 50000) (get_member (codes "to") task)
+  height ← required (spot key.TaskHeight 0) (number 0 50000) (get_member (codes "height") task)
+  points ← required (spot key.TaskPoints 0) (numbers 2 1 1024) (get_member (codes "points") task)
+  above ← demand (nat_lt (slice_index from 0) (slice_index to 0) && nat_lt (slice_index from 1) (slice_index to 1)) (fault.Range (spot key.TaskTo 0))
+  inside ← demand (nat_le (slice_index to 0) room.x && nat_le (slice_index to 1) room.y && nat_le height room.z) (fault.Outside (spot key.Task 0))
+  few ← demand (nat_le (slice_index points 0 * slice_index points 1) 1024) (fault.TooMany (spot key.TaskPoints 0))
+  Ok (record {
+    from_x = slice_index from 0;
+    from_y = slice_index from 1;
+    to_x = slice_index to 0;
+    to_y = slice_index to 1;
+    height = height;
+    nx = slice_index points 0;
+    ny = slice_index points 1;
+  })
+
+-- ---- limits
+
+abbrev pub limits_keys : List (List ℕ)
+limits_keys = codes "average_millilux" ∷ codes "uniformity_permille" ∷ []
+
+-- the limits that a table asks for
+unfoldable pub limits_in : Spot → Data → Result Limits RoomFault
+limits_in s d = do
+  limits ← table_with limits_keys s d
+  average ← where_given (spot key.LimitsAverageMillilux 0) (number 0 1000000000) (get_member (codes "average_millilux") limits)
+  uniformity ← where_given (spot key.LimitsUniformityPermille 0) (number 0 1000) (get_member (codes "uniformity_permille") limits)
+  Ok (record { average = average; uniformity = uniformity })
+
+unfoldable pub limits_of : Members → Result Limits RoomFault
+limits_of document = optional (record { average = None; uniformity = None }) (spot key.Limits 0) limits_in (get_member (codes "limits") document)
+
+-- ---- the document
+
+-- anything but the integer 1 is the fault Version
+abbrev pub version_one : Result ℕ RoomFault → Result (Unit {0}) RoomFault
+version_one (Ok n) = Ok tt
+version_one (Err e) = Err fault.Version
+
+unfoldable pub version_of : Members → Result (Unit {0}) RoomFault
+version_of document = version_one (required (spot key.Version 0) (number 1 1) (get_member (codes "version") document))
+
+abbrev pub document_keys : List (List ℕ)
+document_keys = codes "version" ∷ codes "room" ∷ codes "box" ∷ codes "lamp" ∷ codes "task" ∷ codes "limits" ∷ []
+
+unfoldable pub room_of_document : Members → Result Room RoomFault
+room_of_document document = do
+  one ← version_of document
+  known ← demand (has_only document_keys document) (fault.Unknown (spot key.Version 0))
+  shell ← shell_of document
+  blocks ← blocks_of shell.size document
+  lit ← lamps_of shell.size document
+  task ← task_of shell.size document
+  limits ← limits_of document
+  Ok (record { size = shell.size; reflect = shell.reflect; patch = shell.patch; blocks = blocks; lamps = lit.lamps; files = lit.files; task = task; limits = limits })
+
+-- ---- the text
+
+-- the document of a text, where it is UTF-8 and TOML
+unfoldable pub document_of : List ℕ → Result Members RoomFault
+document_of bytes = elim (if is_utf8 bytes then parse_document bytes else None) [ None ↦ Err fault.NotToml | Some document ↦ Ok document ]
+
+-- the room of a text by the whole layout
+unfoldable pub room_of : List ℕ → Result Room RoomFault
+room_of bytes = document_of bytes >>= room_of_document
+
+-- the room of a document by the part of the layout that is served
+unfoldable pub built_room_of_document : Members → Result Room RoomFault
+built_room_of_document document = do
+  room ← room_of_document document
+  served ← demand (not (is_unserved document)) fault.NotBuilt
+  Ok room
+
+-- the room of a text by the part of the layout that is served
+unfoldable pub built_room_of : List ℕ → Result Room RoomFault
+built_room_of bytes = document_of bytes >>= built_room_of_document

@@ -1,0 +1,9 @@
+pub mod Place
+pub mod PlaceTests
+pub mod Checks
+pub mod Served
+pub mod Layout
+pub mod LayoutTests
+pub mod Accepted
+pub mod FaultText
+pub mod FaultTextTests

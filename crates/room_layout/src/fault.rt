@@ -1,0 +1,105 @@
+//! What is refused in a layout, and where.
+ghost use Rattle.std.specs.Prelude.{◌≡◌, IfOk, Some, string_bytes};
+ghost use Rattle.room_layout.specs.FaultText.{key_text, spot_text, fault_text};
+
+use std::alloc::{AllocError, Global};
+use std::fmt;
+
+/// A key of the layout, in the layout's order.
+#[derive(Clone, Copy, Debug, PartialEq, Eq)]
+pub enum Key {
+    Version,
+    Room,
+    RoomSize,
+    RoomReflect,
+    RoomPatch,
+    Box,
+    BoxLo,
+    BoxHi,
+    BoxReflect,
+    Lamp,
+    LampAt,
+    LampCandela,
+    LampFile,
+    LampSet,
+    LampTurn,
+    LampMaintenance,
+    LampSize,
+    LampSplit,
+    Task,
+    TaskFrom,
+    TaskTo,
+    TaskHeight,
+    TaskPoints,
+    Limits,
+    LimitsAverageMillilux,
+    LimitsUniformityPermille,
+}
+
+/// A key, and the index of its box or lamp counted from 0. The index is 0 outside boxes and lamps.
+#[derive(Clone, Copy, Debug, PartialEq, Eq)]
+pub struct Spot {
+    pub key: Key,
+    pub index: u32,
+}
+
+/// Why a layout is refused.
+#[derive(Clone, Copy, Debug, PartialEq, Eq)]
+pub enum RoomFault {
+    /// The bytes aren't UTF-8, or the text isn't TOML.
+    NotToml,
+    /// `version` isn't there or isn't the integer 1.
+    Version,
+    /// A key that has to be there isn't.
+    Missing(Spot),
+    /// A table has a key that the layout doesn't know. The spot is the table's, or `version` for the document.
+    Unknown(Spot),
+    /// A value is of another kind than its key asks for.
+    Kind(Spot),
+    /// A number or a text is outside its range.
+    Range(Spot),
+    /// A box, a lamp or the task leaves the room.
+    Outside(Spot),
+    /// There are more boxes, lamps, pairs of file and set, or task points than the layout allows.
+    TooMany(Spot),
+    /// The layout is accepted, and has a key that isn't served yet.
+    NotBuilt,
+    /// Want of memory. This says nothing about the text.
+    Memory,
+}
+
+impl Key {
+    /// The key's name, with the name of its table before it.
+    pub fn text(&self) -> &'static str
+        ensures { result.now ≡ key_text self.now }
+    {
+        match self {
+            Key::Version => "version",
+            Key::Room => "room",
+            Key::RoomSize => "room.size",
+            Key::RoomReflect => "room.reflect",
+            Key::RoomPatch => "room.patch",
+            Key::Box => "box",
+            Key::BoxLo => "box.lo",
+            Key::BoxHi => "box.hi",
+            Key::BoxReflect => "box.reflect",
+            Key::Lamp => "lamp",
+            Key::LampAt => "lamp.at",
+            Key::LampCandela => "lamp.candela",
+            Key::LampFile => "lamp.file",
+            Key::LampSet => "lamp.set",
+            Key::LampTurn => "lamp.turn",
+            Key::LampMaintenance => "lamp.maintenance",
+            Key::LampSize => "lamp.size",
+            Key::LampSplit => "lamp.split",
+            Key::Task => "task",
+            Key::TaskFrom => "task.from",
+            Key::TaskTo => "task.to",
+            Key::TaskHeight => "task.height",
+            Key::TaskPoints => "task.points",
+            Key::Limits => "limits",
+            Key::LimitsAverageMillilux => "limits.average_millilux",
+            Key::LimitsUniformityPermille => "limits.uniformity_permille",
+        }
+    }
+}

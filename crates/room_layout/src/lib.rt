@@ -1,0 +1,14 @@
+//! The layout of a room as TOML text: its size, its surfaces, its boxes, its lamps, its task grid and the limits asked of it.
+//! `read_room` gives the room that a text describes, or the first fault in the order of checking.
+#![tactic(auto)]
+
+mod fault;
+mod geometry;
+mod parts;
+mod room;
+
+pub use fault::{Key, RoomFault, Spot};
+pub use geometry::{Face, Point, Size};
+pub use room::{
+    Block, Blocks, FileUse, FileUses, Lamp, Lamps, Limits, Name, Reflects, Room, Shine, TaskGrid,
+};

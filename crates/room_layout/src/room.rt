@@ -1,0 +1,238 @@
+//! A room and what is in it. Lists of boxes, lamps and files are types of their own, which contracts see as lists.
+ghost use Rattle.std.specs.Prelude.{◌≡◌, IfOk, length};
+
+use crate::Size;
+use std::alloc::{AllocError, Global};
+use std::marker::Model;
+
+/// A box, between its lowest and its highest corner in millimetres. `reflect` is in thousandths.
+#[derive(Clone, Copy, Debug, PartialEq, Eq)]
+pub struct Block {
+    pub lo: Size,
+    pub hi: Size,
+    pub reflect: u16,
+}
+
+/// How a lamp shines: evenly in all directions with an intensity in candela, or as the file at an index of the room's files says.
+#[derive(Clone, Copy, Debug, PartialEq, Eq)]
+pub enum Shine {
+    Even(u32),
+    File(u32),
+}
+
+/// A lamp. Its middle is `at`, in millimetres; `turn` is in degrees and `maintenance` in thousandths. It shines from a rectangle of
+/// `size_x` by `size_y` millimetres, which `split_x` by `split_y` points stand for.
+#[derive(Clone, Copy, Debug, PartialEq, Eq)]
+pub struct Lamp {
+    pub at: Size,
+    pub shine: Shine,
+    pub turn: u16,
+    pub maintenance: u16,
+    pub size_x: u32,
+    pub size_y: u32,
+    pub split_x: u32,
+    pub split_y: u32,
+}
+
+/// A file's name: 1 to 255 bytes of text without control characters. Contracts see its bytes.
+#[derive(Debug, Drop)]
+pub struct Name {
+    text: String,
+}
+
+impl Model for Name {
+    ghost use Rattle.std.specs.Prelude.{List, ℕ, string_bytes};
+
+    ghost Value = { List ℕ };
+
+    ghost view = { λ n. string_bytes n.text };
+}
+
+impl Name {
+    /// A copy of the text.
+    pub fn from_text(alloc: Global, text: &str) -> Result<Name, AllocError>
+        ensures { IfOk result (λ n. n ≡ text.now) }
+    {
+        let text = String::from_str(alloc, text)?;
+        Ok(Name { text })
+    }
+
+    pub fn text(&self) -> &str
+        ensures { result.now ≡ self.now }
+    {
+        self.text.as_str()
+    }
+}
+
+/// A photometric file and which of its lamp sets is used, counted from 1.
+#[derive(Debug, Drop)]
+pub struct FileUse {
+    pub name: Name,
+    pub set: u32,
+}
+
+/// The reflectances of the room's own surfaces, in thousandths: floor, ceiling, and the walls at either end of x and of y.
+#[derive(Clone, Copy, Debug, PartialEq, Eq)]
+pub struct Reflects {
+    pub floor: u16,
+    pub ceiling: u16,
+    pub x0: u16,
+    pub x1: u16,
+    pub y0: u16,
+    pub y1: u16,
+}
+
+/// The grid of task points: `nx` by `ny` points in a rectangle at a height, in millimetres.
+#[derive(Clone, Copy, Debug, PartialEq, Eq)]
+pub struct TaskGrid {
+    pub from_x: u32,
+    pub from_y: u32,
+    pub to_x: u32,
+    pub to_y: u32,
+    pub height: u32,
+    pub nx: u32,
+    pub ny: u32,
+}
+
+/// What is asked of the grid: the least average in thousandths of a lux, and the least uniformity in thousandths.
+#[derive(Clone, Copy, Debug, PartialEq, Eq)]
+pub struct Limits {
+    pub average: Option<u64>,
+    pub uniformity: Option<u32>,
+}
+
+/// A room. `patch` is the longest edge of a patch in millimetres. `files` has each pair of file and lamp set once, in order of first use.
+#[derive(Debug, Drop)]
+pub struct Room {
+    pub size: Size,
+    pub reflect: Reflects,
+    pub patch: u32,
+    pub blocks: Blocks,
+    pub lamps: Lamps,
+    pub files: FileUses,
+    pub task: TaskGrid,
+    pub limits: Limits,
+}
+
+/// The boxes of a room, in the order of the layout.
+#[derive(Debug, Drop)]
+pub struct Blocks {
+    kept: Vec<Block>,
+}
+
+impl Model for Blocks {
+    ghost use Rattle.std.specs.Prelude.{List};
+    ghost use Rattle.room_layout.specs.declared.room.Block.{Block};
+
+    ghost Value = { List Block };
+
+    ghost view = { λ b. b.kept.items };
+}
+
+impl Blocks {
+    pub fn from_vec(blocks: Vec<Block>) -> Blocks
+        ensures { result ≡ blocks.items }
+    {
+        Blocks { kept: blocks }
+    }
+
+    pub fn into_vec(self) -> Vec<Block>
+        ensures { result.items ≡ self }
+    {
+        self.kept
+    }
+
+    pub fn as_slice(&self) -> &[Block]
+        ensures { result.now ≡ self.now }
+    {
+        self.kept.as_slice()
+    }
+
+    pub fn len(&self) -> usize
+        ensures { result ≡ length self.now }
+    {
+        self.kept.len()
+    }
+}
+
+/// The lamps of a room, in the order of the layout.
+#[derive(Debug, Drop)]
+pub struct Lamps {
+    kept: Vec<Lamp>,
+}
+
+impl Model for Lamps {
+    ghost use Rattle.std.specs.Prelude.{List};
+    ghost use Rattle.room_layout.specs.declared.room.Lamp.{Lamp};
+
+    ghost Value = { List Lamp };
+
+    ghost view = { λ l. l.kept.items };
+}
+
+impl Lamps {
+    pub fn from_vec(lamps: Vec<Lamp>) -> Lamps
+        ensures { result ≡ lamps.items }
+    {
+        Lamps { kept: lamps }
+    }
+
+    pub fn into_vec(self) -> Vec<Lamp>
+        ensures { result.items ≡ self }
+    {
+        self.kept
+    }
+
+    pub fn as_slice(&self) -> &[Lamp]
+        ensures { result.now ≡ self.now }
+    {
+        self.kept.as_slice()
+    }
+
+    pub fn len(&self) -> usize
+        ensures { result ≡ length self.now }
+    {
+        self.kept.len()
+    }
+}
+
+/// The distinct pairs of file and lamp set that a room's lamps use, in order of first use.
+#[derive(Debug, Drop)]
+pub struct FileUses {
+    kept: Vec<FileUse>,
+}
+
+impl Model for FileUses {
+    ghost use Rattle.std.specs.Prelude.{List};
+    ghost use Rattle.room_layout.specs.declared.room.FileUse.{FileUse};
+
+    ghost Value = { List FileUse };
+
+    ghost view = { λ f. f.kept.items };
+}
+
+impl FileUses {
+    pub fn from_vec(files: Vec<FileUse>) -> FileUses
+        ensures { result ≡ files.items }
+    {
+        FileUses { kept: files }
+    }
+
+    pub fn into_vec(self) -> Vec<FileUse>
+        ensures { result.items ≡ self }
+    {
+        self.kept
+    }
+
+    pub fn as_slice(&self) -> &[FileUse]
+        ensures { result.now ≡ self.now }
+    {
+        self.kept.as_slice()
+    }
+
+    pub fn len(&self) -> usize
+        ensures { result ≡ length self.now }
+    {
+        self.kept.len()
+    }
+}
