@@ -1,6 +1,6 @@
 -- Intervals of fractions: a lower and an upper end.
 use Rattle.std.specs.Prelude.{ℕ, ◌*◌, ◌⊎◌}
-use Rattle.fx_base.specs.Fraction.{Fraction, ◌≤ᶠ◌, ◌+ᶠ◌, ◌-ᶠ◌, whole}
+use Rattle.fx_base.specs.Fraction.{Fraction, ◌≤ᶠ◌, ◌+ᶠ◌, ◌-ᶠ◌, whole, sum_to}
 
 pub record Interval : Type 0 where
   pub lo : Fraction
@@ -37,3 +37,7 @@ turned turns i = record { lo = i.lo +ᶠ whole (360 * turns); hi = i.hi +ᶠ who
 -- angles that have a direction in common: one of them, moved by whole turns, meets the other
 abbrev pub MeetsOnCircle : Interval → Interval → Type 0
 MeetsOnCircle a b = (turns : ℕ) × (Meets (turned turns a) b ⊎ Meets a (turned turns b))
+
+-- the sum of i 0 to i (count - 1)
+abbrev pub sum_of : ℕ → (ℕ → Interval) → Interval
+sum_of count i = record { lo = sum_to count (λ k. (i k).lo); hi = sum_to count (λ k. (i k).hi) }
