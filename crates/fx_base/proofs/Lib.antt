@@ -1,1 +1,9 @@
+pub mod Cross
+pub mod Near
+pub mod Order
+pub mod Quotient
+pub mod Ratios
+pub mod RootLaws
 pub mod Rounding
+pub mod SearchLaws
+pub mod Sums

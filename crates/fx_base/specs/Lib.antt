@@ -1,4 +1,9 @@
+pub mod Ends
 pub mod Fraction
 pub mod Interval
-pub mod Ends
+pub mod Laws
+pub mod Nesting
+pub mod Root
+pub mod RootTests
+pub mod Search
 pub mod Units

@@ -3,6 +3,7 @@
 #![tactic(auto)]
 
 mod cents;
+pub mod laws;
 mod memory;
 mod micro;
 mod span;

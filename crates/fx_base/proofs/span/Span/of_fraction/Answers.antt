@@ -1,5 +1,4 @@
-use Rattle.std.proofs.Common.{rules, ◌≡◌, ℕ, ◌+◌, ◌*◌, ◌/◌, ◌^◌, ap, sym, ◌∙◌, arith, pos}
-use Rattle.std.proofs.lemmas.Grind.{common_steps}
+use Rattle.std.proofs.Common.{rules}
 use Rattle.fx_base.proofs.Rounding.{scaled_down, scaled_up}
 use Rattle.fx_base.proofs.span.Span.of_fraction.Goals as goal
 
