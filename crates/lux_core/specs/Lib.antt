@@ -1,0 +1,6 @@
+pub mod Codes
+pub mod Commands
+pub mod Headline
+pub mod Light
+pub mod Printed
+pub mod Scene

@@ -1,0 +1,8 @@
+//! The planner: the words of the command line in, a status and one text out.
+#![tactic(auto)]
+
+mod status;
+mod text;
+mod words;
+
+pub use status::Status;
