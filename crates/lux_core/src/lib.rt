@@ -1,6 +1,7 @@
 //! The planner: the words of the command line in, a status and one text out.
 #![tactic(auto)]
 
+mod light;
 mod status;
 mod text;
 mod words;
