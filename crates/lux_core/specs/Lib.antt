@@ -2,5 +2,6 @@ pub mod Codes
 pub mod Commands
 pub mod Headline
 pub mod Light
+pub mod Positions
 pub mod Printed
 pub mod Scene
