@@ -37,17 +37,17 @@ unfolding falloff
 falloff_below a r i d y p q h =
     over_below (i *ᶠ ratio 1000 1000 *ᶠ whole (a * 4000000) /ᶠ (whole r *ᶠ d)) (whole 1) y one_positive
     (le_trans_f
-        (over_below (i *ᶠ ratio 1000 1000 *ᶠ whole (a * 4000000)) (whole r *ᶠ d) y (product_positive r d p q)
-            (le_trans_f (mul_le_f (all_kept i) (le_refl_f (whole (a * 4000000)))) h))
-        (le_mul_one_f y))
+    (over_below (i *ᶠ ratio 1000 1000 *ᶠ whole (a * 4000000)) (whole r *ᶠ d) y (product_positive r d p q)
+    (le_trans_f (mul_le_f (all_kept i) (le_refl_f (whole (a * 4000000)))) h))
+    (le_mul_one_f y))
 
 pub above_falloff : (a r : ℕ) (i d y : Fraction) → 0 < r → 0 < d.num → (y *ᶠ (whole r *ᶠ d)) ≤ᶠ (i *ᶠ whole (a * 4000000)) → y ≤ᶠ falloff 1000 1 a r i d
 unfolding falloff
 above_falloff a r i d y p q h =
     le_over (i *ᶠ ratio 1000 1000 *ᶠ whole (a * 4000000) /ᶠ (whole r *ᶠ d)) (whole 1) y one_positive
     (le_trans_f (mul_one_f y)
-        (le_over (i *ᶠ ratio 1000 1000 *ᶠ whole (a * 4000000)) (whole r *ᶠ d) y (product_positive r d p q)
-            (le_trans_f h (mul_le_f (kept_all i) (le_refl_f (whole (a * 4000000)))))))
+    (le_over (i *ᶠ ratio 1000 1000 *ᶠ whole (a * 4000000)) (whole r *ᶠ d) y (product_positive r d p q)
+    (le_trans_f h (mul_le_f (kept_all i) (le_refl_f (whole (a * 4000000)))))))
 
 -- it grows with the intensity, and falls with the distance
 pub falloff_le : (a r : ℕ) (i j d e : Fraction) → 0 < r → 0 < e.num → i ≤ᶠ j → e ≤ᶠ d → falloff 1000 1 a r i d ≤ᶠ falloff 1000 1 a r j e
@@ -109,31 +109,31 @@ high_meets c a r k q d p g above f =
 least_factor : (h k q : ℕ) → h ≤ k + 1 → 68719476736 ≤ k → (ratio (q * h) (68719476736 * k) *ᶠ ratio 16777215 16777216) ≤ᶠ ticks q
 unfolding ◌*ᶠ◌ ticks
 least_factor h k q near big = record {
-    cross = rw (ratio_num (q * h) (68719476736 * k) (omega arith), ratio_den (q * h) (68719476736 * k) (omega arith), ratio_num 16777215 16777216 (omega arith), ratio_den 16777215 16777216 (omega arith))
-        (let e : h * 16777215 ≤ k * 16777216 = omega arith in omega (arith, mul-le-mul_left q e));
-  }
+  cross = rw (ratio_num (q * h) (68719476736 * k) (omega arith), ratio_den (q * h) (68719476736 * k) (omega arith), ratio_num 16777215 16777216 (omega arith), ratio_den 16777215 16777216 (omega arith))
+      (let e : h * 16777215 ≤ k * 16777216 = omega arith in omega (arith, mul-le-mul_left q e));
+}
 
 greatest_factor : (h k q : ℕ) → k ≤ h → h ≤ k + 1 → 68719476736 ≤ k → ticks q ≤ᶠ (ratio (q * k) (68719476736 * h) *ᶠ ratio 16777217 16777216)
 unfolding ◌*ᶠ◌ ticks
 greatest_factor h k q order near big = record {
-    cross = rw (ratio_num (q * k) (68719476736 * h) (omega arith), ratio_den (q * k) (68719476736 * h) (omega arith), ratio_num 16777217 16777216 (omega arith), ratio_den 16777217 16777216 (omega arith))
-        (let e : h * 16777216 ≤ k * 16777217 = omega arith in omega (arith, mul-le-mul_left q e));
-  }
+  cross = rw (ratio_num (q * k) (68719476736 * h) (omega arith), ratio_den (q * k) (68719476736 * h) (omega arith), ratio_num 16777217 16777216 (omega arith), ratio_den 16777217 16777216 (omega arith))
+      (let e : h * 16777216 ≤ k * 16777217 = omega arith in omega (arith, mul-le-mul_left q e));
+}
 
 -- q h / (s k), against the light at the distance k
 loose_low_cross : (c w r h k q : ℕ) → 0 < k → c * w * (68719476736 * 68719476736) ≤ q * (r * h)
     → (whole c *ᶠ whole w) ≤ᶠ (ratio (q * h) (68719476736 * k) *ᶠ (whole r *ᶠ ticks k))
 unfolding ticks whole ◌*ᶠ◌
 loose_low_cross c w r h k q p f = record {
-    cross = rw (ratio_num (q * h) (68719476736 * k) (omega arith), ratio_den (q * h) (68719476736 * k) (omega arith)) (omega (arith, mul-le-mul_left k f));
-  }
+  cross = rw (ratio_num (q * h) (68719476736 * k) (omega arith), ratio_den (q * h) (68719476736 * k) (omega arith)) (omega (arith, mul-le-mul_left k f));
+}
 
 loose_high_cross : (c w r h k q : ℕ) → 0 < h → q * (r * k) ≤ c * w * (68719476736 * 68719476736)
     → (ratio (q * k) (68719476736 * h) *ᶠ (whole r *ᶠ ticks h)) ≤ᶠ (whole c *ᶠ whole w)
 unfolding ticks whole ◌*ᶠ◌
 loose_high_cross c w r h k q p f = record {
-    cross = rw (ratio_num (q * k) (68719476736 * h) (omega arith), ratio_den (q * k) (68719476736 * h) (omega arith)) (omega (arith, mul-le-mul_left h f));
-  }
+  cross = rw (ratio_num (q * k) (68719476736 * h) (omega arith), ratio_den (q * k) (68719476736 * h) (omega arith)) (omega (arith, mul-le-mul_left h f));
+}
 
 two_ticks : (q : ℕ) → ticks (q + 2) ≤ᶠ (ticks q +ᶠ half_power 20)
 unfolding ticks half_power ◌+ᶠ◌
@@ -150,10 +150,10 @@ pub low_near_loose : (c a r h k q : ℕ) (i d : Fraction) → 0 < r → h ≤ k 
 low_near_loose c a r h k q i d p near big above dim f =
     let z : 0 < k = omega arith in
     let most : falloff 1000 1 a r i d ≤ᶠ ratio ((q + 2) * h) (68719476736 * k) =
-        le_trans_f (falloff_le a r i (whole c) d (ticks k) p (ticks_positive k z) dim above)
-            (falloff_below a r (whole c) (ticks k) (ratio ((q + 2) * h) (68719476736 * k)) p (ticks_positive k z) (loose_low_cross c (a * 4000000) r h k (q + 2) z f)) in
+    le_trans_f (falloff_le a r i (whole c) d (ticks k) p (ticks_positive k z) dim above)
+    (falloff_below a r (whole c) (ticks k) (ratio ((q + 2) * h) (68719476736 * k)) p (ticks_positive k z) (loose_low_cross c (a * 4000000) r h k (q + 2) z f)) in
     sub_le_f (falloff 1000 1 a r i d *ᶠ ratio 16777215 16777216) (half_power 20)
-        (le_trans_f (mul_le_f most (le_refl_f (ratio 16777215 16777216))) (le_trans_f (least_factor h k (q + 2) near big) (two_ticks q)))
+    (le_trans_f (mul_le_f most (le_refl_f (ratio 16777215 16777216))) (le_trans_f (least_factor h k (q + 2) near big) (two_ticks q)))
 
 -- the upper end q is at most the loose value for each intensity from c on and each distance up to h
 pub high_near_loose : (c a r h k q : ℕ) (i d : Fraction) → 0 < r → k ≤ h → h ≤ k + 1 → 68719476736 ≤ k → 0 < d.num → d ≤ᶠ ticks h → whole c ≤ᶠ i
@@ -162,10 +162,10 @@ pub high_near_loose : (c a r h k q : ℕ) (i d : Fraction) → 0 < r → k ≤ h
 high_near_loose c a r h k q i d p order near big g below bright f =
     let z : 0 < h = omega arith in
     let least : ratio ((q - 2) * k) (68719476736 * h) ≤ᶠ falloff 1000 1 a r i d =
-        le_trans_f (above_falloff a r (whole c) (ticks h) (ratio ((q - 2) * k) (68719476736 * h)) p (ticks_positive h z) (loose_high_cross c (a * 4000000) r h k (q - 2) z f))
-            (falloff_le a r (whole c) i (ticks h) d p g bright below) in
+    le_trans_f (above_falloff a r (whole c) (ticks h) (ratio ((q - 2) * k) (68719476736 * h)) p (ticks_positive h z) (loose_high_cross c (a * 4000000) r h k (q - 2) z f))
+    (falloff_le a r (whole c) i (ticks h) d p g bright below) in
     le_trans_f (two_ticks_less q)
-        (add_le_f (le_trans_f (greatest_factor h k (q - 2) order near big) (mul_le_f least (le_refl_f (ratio 16777217 16777216)))) (le_refl_f (half_power 20)))
+    (add_le_f (le_trans_f (greatest_factor h k (q - 2) order near big) (mul_le_f least (le_refl_f (ratio 16777217 16777216)))) (le_refl_f (half_power 20)))
 
 -- ---- the whole share
 
@@ -197,21 +197,21 @@ root_low_positive n r p = some_root (r * 4 ^ n) (whole_root (r * 4 ^ n)) (mul-po
 pub made_meets : (c a r h k x y q t : ℕ) → IsMade c (a * 4000000) r h k x y q t → (n : ℕ)
     → Meets (record { lo = ticks q; hi = ticks t }) (fallen n 1000 1 a r (exact (whole c)))
 made_meets c a r h k x y q t m n = record {
-    above = low_meets c a r h q (root n r).lo m.apart (root_low_positive n r m.apart) (root_below_ticks r h n m.root_above)
-        (low_exact 68719476736 c (a * 4000000) r h x q m.first_down m.then_down);
-    below = high_meets c a r k t (root n r).hi m.apart (let g = m.big in omega arith) (root_above_ticks r k n m.root_below)
-        (high_exact 68719476736 c (a * 4000000) r k y t m.first_up m.then_up);
-  }
+  above = low_meets c a r h q (root n r).lo m.apart (root_low_positive n r m.apart) (root_below_ticks r h n m.root_above)
+      (low_exact 68719476736 c (a * 4000000) r h x q m.first_down m.then_down);
+  below = high_meets c a r k t (root n r).hi m.apart (let g = m.big in omega arith) (root_above_ticks r k n m.root_below)
+      (high_exact 68719476736 c (a * 4000000) r k y t m.first_up m.then_up);
+}
 
 pub made_near : (c a r h k x y q t : ℕ) → IsMade c (a * 4000000) r h k x y q t → (n : ℕ)
     → LiesIn (record { lo = ticks q; hi = ticks t }) (loosened (fallen n 1000 1 a r (outward (half_power 30) (exact (whole c)))))
 unfolding loosened
 made_near c a r h k x y q t m n = record {
-    lower = low_near_loose c a r h k q (whole c -ᶠ half_power 30) (root n r).hi m.apart m.near m.big (root_above_ticks r k n m.root_below) (sub_le_self_f (whole c) (half_power 30))
-        (low_near 68719476736 c (a * 4000000) r h x q m.first_down_near m.then_down_near (let g = m.big in let o = m.order in omega arith));
-    upper = high_near_loose c a r h k t (whole c +ᶠ half_power 30) (root n r).lo m.apart m.order m.near m.big (root_low_positive n r m.apart) (root_below_ticks r h n m.root_above) (le_add_f (whole c) (half_power 30))
-        (high_near 68719476736 c (a * 4000000) r k y t m.first_up_near m.then_up_near m.big);
-  }
+  lower = low_near_loose c a r h k q (whole c -ᶠ half_power 30) (root n r).hi m.apart m.near m.big (root_above_ticks r k n m.root_below) (sub_le_self_f (whole c) (half_power 30))
+      (low_near 68719476736 c (a * 4000000) r h x q m.first_down_near m.then_down_near (let g = m.big in let o = m.order in omega arith));
+  upper = high_near_loose c a r h k t (whole c +ᶠ half_power 30) (root n r).lo m.apart m.order m.near m.big (root_low_positive n r m.apart) (root_below_ticks r h n m.root_above) (le_add_f (whole c) (half_power 30))
+      (high_near 68719476736 c (a * 4000000) r k y t m.first_up_near m.then_up_near m.big);
+}
 
 -- the greatest light of one lamp: 4 * 10^6 times its intensity, at half a millimetre
 pub made_most : (c a r h k x y q t : ℕ) → IsMade c (a * 4000000) r h k x y q t → a ≤ r → c ≤ 10000000 → t ≤ 2 ^ 83
@@ -220,6 +220,6 @@ made_most c a r h k x y q t m l d =
     let g = m.then_up_near in
     let big = m.big in
     let first : y ≤ c * 274877906944000000 + 1 =
-        le_of_mul-le-mul_left {k = r} (omega (arith, mul-le-mul_left (c * 274877906944000000) l)) m.apart in
+    le_of_mul-le-mul_left {k = r} (omega (arith, mul-le-mul_left (c * 274877906944000000) l)) m.apart in
     let then : t ≤ y + 1 = le_of_mul-le-mul_left {k = k} (omega (arith, mul-le-mul_left y big)) (omega arith) in
     omega arith

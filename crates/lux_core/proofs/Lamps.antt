@@ -58,15 +58,15 @@ share_at n i j at c p e = ap (λ (q : Place). share_of n i (plain_lamp at c) q p
 
 one_meets : (s j : Interval) → Meets s j → Meets s (record { lo = whole 0 +ᶠ j.lo; hi = whole 0 +ᶠ j.hi })
 one_meets s j m = record {
-    above = le_trans_f m.above (le_add_left_f (whole 0) j.hi);
-    below = le_trans_f (zero_add_f j.lo) m.below;
-  }
+  above = le_trans_f m.above (le_add_left_f (whole 0) j.hi);
+  below = le_trans_f (zero_add_f j.lo) m.below;
+}
 
 one_near : (s j : Interval) → LiesIn s j → LiesIn s (record { lo = whole 0 +ᶠ j.lo; hi = whole 0 +ᶠ j.hi })
 one_near s j m = record {
-    lower = le_trans_f (zero_add_f j.lo) m.lower;
-    upper = le_trans_f m.upper (le_add_left_f (whole 0) j.hi);
-  }
+  lower = le_trans_f (zero_add_f j.lo) m.lower;
+  upper = le_trans_f m.upper (le_add_left_f (whole 0) j.hi);
+}
 
 lamp_meets : (n : ℕ) (at : Size) (c : ℕ) (p : Place) (s j : Interval) → share_of n (exact (whole c)) (plain_lamp at c) (place_of_size at) p Up true ≡ j
     → Meets s j → Meets s (lamp_light n p Up (plain_lamp at c))
@@ -111,9 +111,9 @@ nothing_times a = record { cross = omega arith }
 loose_nothing : LiesIn (exact (ticks 0)) (loosened (exact (whole 0)))
 unfolding loosened
 loose_nothing = record {
-    lower = sub_le_f (whole 0 *ᶠ ratio 16777215 16777216) (half_power 20) (le_trans_f (nothing_times (ratio 16777215 16777216)) (zero_le_f (ticks 0 +ᶠ half_power 20)));
-    upper = le_trans_f (no_ticks.0) (zero_le_f (whole 0 *ᶠ ratio 16777217 16777216 +ᶠ half_power 20));
-  }
+  lower = sub_le_f (whole 0 *ᶠ ratio 16777215 16777216) (half_power 20) (le_trans_f (nothing_times (ratio 16777215 16777216)) (zero_le_f (ticks 0 +ᶠ half_power 20)));
+  upper = le_trans_f (no_ticks.0) (zero_le_f (whole 0 *ᶠ ratio 16777217 16777216 +ᶠ half_power 20));
+}
 
 -- a span of no ticks
 dark_span : (s : Ends) → s.lo ≡ pos 0 → s.hi ≡ pos 0 → exact (ticks 0) ≡ of_span s
@@ -123,7 +123,7 @@ dark_meets : (l : Lamp) (c : ℕ) → l.shine ≡ Even c → IsPlainLamp l → (
 dark_meets l c e plain p h n =
     let P : Lamp → Type 0 = λ k. Meets (exact (ticks 0)) (lamp_light n p Up k) in
     subst P (sym (lamp_is_plain l c e plain)) (lamp_meets n l.at c p (exact (ticks 0)) (exact (whole 0)) (share_dark n (exact (whole c)) l.at c p h)
-        (record { above = no_ticks.0; below = no_ticks.1 }))
+    (record { above = no_ticks.0; below = no_ticks.1 }))
 
 dark_near : (l : Lamp) (c : ℕ) → l.shine ≡ Even c → IsPlainLamp l → (p : Place) → 2 * l.at.z ≤ p.z → (n : ℕ) → LiesIn (exact (ticks 0)) (loose_lamp_light n p Up l)
 dark_near l c e plain p h n =

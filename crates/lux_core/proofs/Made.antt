@@ -24,9 +24,9 @@ next_span m k h e g f = rw f (record { below = e; above = omega (arith, g); orde
 
 span_of_root : (m k h : ℕ) → k * k ≤ m → m < (k + 1) * (k + 1) → (k * k ≡ m → h ≡ k) → (k * k < m → h ≡ k + 1) → IsRootSpan m k h
 span_of_root m k h e g exact next = elim (cases_lt (k * k) m) [
-    inl l ↦ next_span m k h e g (next l)
+  | inl l ↦ next_span m k h e g (next l)
   | inr r ↦ let same : k * k ≡ m = omega (arith, e, r) in whole_span m k h same (exact same)
-  ]
+]
 
 root_below_is : (m : ℕ) (z : ℤ) → IsRootBelow m z → (natural z * natural z ≤ m) × (m < (natural z + 1) * (natural z + 1))
 root_below_is m z (k, is, low, high) = rw is (low, high)

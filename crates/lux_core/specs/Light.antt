@@ -78,8 +78,15 @@ loose_lamp_light n p face l = sum_of (part_count l) (λ k. loose_share n l (lamp
 abbrev pub no_lamp : Lamp
 no_lamp = record { at = record { x = 0; y = 0; z = 0 }; shine = Even 0; turn = 0; maintenance = 0; size_x = 0; size_y = 0; split_x = 0; split_y = 0 }
 
-unfoldable pub direct_light : ℕ → List Lamp → Place → Face → Interval
-direct_light n lamps p face = sum_of (length lamps) (λ k. lamp_light n p face (slice_index_or lamps k no_lamp))
+-- the first `count` lamps together
+unfoldable pub light_of_first : ℕ → ℕ → List Lamp → Place → Face → Interval
+light_of_first n count lamps p face = sum_of count (λ k. lamp_light n p face (slice_index_or lamps k no_lamp))
 
-unfoldable pub loose_direct_light : ℕ → List Lamp → Place → Face → Interval
-loose_direct_light n lamps p face = sum_of (length lamps) (λ k. loose_lamp_light n p face (slice_index_or lamps k no_lamp))
+unfoldable pub loose_light_of_first : ℕ → ℕ → List Lamp → Place → Face → Interval
+loose_light_of_first n count lamps p face = sum_of count (λ k. loose_lamp_light n p face (slice_index_or lamps k no_lamp))
+
+abbrev pub direct_light : ℕ → List Lamp → Place → Face → Interval
+direct_light n lamps p face = light_of_first n (length lamps) lamps p face
+
+abbrev pub loose_direct_light : ℕ → List Lamp → Place → Face → Interval
+loose_direct_light n lamps p face = loose_light_of_first n (length lamps) lamps p face

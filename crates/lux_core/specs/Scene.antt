@@ -12,7 +12,7 @@ abbrev pub point_place : TaskGrid → ℕ → Place
 point_place task g = task_place task (g % task.nx) (g / task.nx)
 
 -- the values at depth n
-unfoldable pub lit : ℕ → Room → Grid
+abbrev pub lit : ℕ → Room → Grid
 lit n room = record {
   points = room.task.nx * room.task.ny;
   covered = λ g. false;
@@ -20,7 +20,7 @@ lit n room = record {
 }
 
 -- how far out the printed numbers may lie at depth n
-unfoldable pub loose : ℕ → Room → Grid
+abbrev pub loose : ℕ → Room → Grid
 loose n room = record {
   points = room.task.nx * room.task.ny;
   covered = λ g. false;

@@ -2,6 +2,7 @@
 #![tactic(auto)]
 
 mod light;
+mod points;
 mod status;
 mod text;
 mod words;

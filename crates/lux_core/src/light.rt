@@ -6,7 +6,7 @@ ghost use Rattle.fx_base.specs.Units.{natural, of_span};
 ghost use Rattle.room_layout.specs.Accepted.{IsPlainLamp};
 ghost use Rattle.room_layout.specs.Place.{apart, place_of_size, squared_distance};
 ghost use Rattle.room_layout.specs.declared.geometry.Face.TheVariants.{Up};
-ghost use Rattle.lux_core.specs.Light.{fallen, lamp_light, loose_lamp_light, loosened};
+ghost use Rattle.lux_core.specs.Light.{fallen, direct_light, lamp_light, loose_direct_light, loose_lamp_light, loosened};
 ghost use Rattle.lux_core.specs.Positions.{IsWithinRoom, IsDim, place_at};
 
 use fx_base::Span;
@@ -83,4 +83,37 @@ fn light_of_lamp(lamp: &Lamp, at: &Position) -> Span
         return Span::whole(0);
     }
     even_share(candela, from.z - at.z, distance_squared(at, &from))
+}
+
+/// Two lights together.
+fn together(a: Span, b: Span) -> Span
+    requires a { pos 0 ≤ℤ a.lo }
+    requires b { pos 0 ≤ℤ b.lo }
+    requires a_high { natural a.hi ≤ 2 ^ 100 }
+    requires b_high { natural b.hi ≤ 2 ^ 100 }
+    ensures low { result.lo ≡ pos (natural a.lo + natural b.lo) }
+    ensures high { result.hi ≡ pos (natural a.hi + natural b.hi) }
+{
+    // the ends of each are in order
+    let _first = a.lo();
+    let _second = b.lo();
+    a.add(b)
+}
+
+/// The light of all lamps on a plane that faces up at a place.
+pub fn light_of_all(lamps: &[Lamp], at: &Position) -> Span
+    requires plain { All IsPlainLamp lamps.now }
+    requires within { All IsDim lamps.now }
+    requires few { length lamps.now ≤ 256 }
+    requires at { IsWithinRoom at.now }
+    ensures meets { (n : ℕ) → Meets (of_span result) (direct_light n lamps.now (place_at at.now) Up) }
+    ensures near { (n : ℕ) → LiesIn (of_span result) (loose_direct_light n lamps.now (place_at at.now) Up) }
+    ensures low { pos 0 ≤ℤ result.lo }
+    ensures high { natural result.hi ≤ 2 ^ 91 }
+{
+    let mut light = Span::whole(0);
+    for lamp in lamps {
+        light = together(light, light_of_lamp(lamp, at));
+    }
+    light
 }
