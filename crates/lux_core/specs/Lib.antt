@@ -6,3 +6,4 @@ pub mod PointValues
 pub mod Positions
 pub mod Printed
 pub mod Scene
+pub mod Sums

@@ -1,6 +1,7 @@
 //! The planner: the words of the command line in, a status and one text out.
 #![tactic(auto)]
 
+mod grid;
 mod light;
 mod points;
 mod status;
