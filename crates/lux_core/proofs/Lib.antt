@@ -3,6 +3,7 @@ pub mod Falls
 pub mod Grids
 pub mod Lamps
 pub mod Leasts
+pub mod Lines
 pub mod Made
 pub mod Totals
 pub mod Values

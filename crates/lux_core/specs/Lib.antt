@@ -5,5 +5,6 @@ pub mod Light
 pub mod PointValues
 pub mod Positions
 pub mod Printed
+pub mod Reports
 pub mod Scene
 pub mod Sums
