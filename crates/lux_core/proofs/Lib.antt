@@ -5,5 +5,8 @@ pub mod Lamps
 pub mod Leasts
 pub mod Lines
 pub mod Made
+pub mod Means
+pub mod Printing
 pub mod Totals
+pub mod Uniform
 pub mod Values

@@ -4,6 +4,7 @@
 mod grid;
 mod light;
 mod points;
+mod reply;
 mod status;
 mod text;
 mod words;
