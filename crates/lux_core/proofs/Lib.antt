@@ -7,6 +7,8 @@ pub mod Lines
 pub mod Made
 pub mod Means
 pub mod Printing
+pub mod Right
+pub mod Shares
 pub mod Totals
 pub mod Uniform
 pub mod Values
