@@ -5,10 +5,13 @@ pub mod Lamps
 pub mod Leasts
 pub mod Lines
 pub mod Made
+pub mod Ordered
 pub mod Means
 pub mod Printing
 pub mod Right
+pub mod Rooms
 pub mod Shares
+pub mod TickMeans
 pub mod Totals
 pub mod Uniform
 pub mod Values

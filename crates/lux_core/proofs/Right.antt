@@ -1,74 +1,163 @@
--- The report of the values of a room is right.
-use Rattle.std.proofs.Common.{ℕ, zero, suc, ◌+◌, ◌-◌, ◌*◌, ◌/◌, ◌^◌, ◌<◌, ◌≤◌, ◌≡◌, ◌↔◌, Bool, true, false, min, List, length, take, map, arith, refl, sym, subst, ap, ◌∙◌, inl, inr, if◌then◌else◌, pos, ◌≤ℤ◌}
-use Rattle.std.specs.Prelude.{slice_index_or, sum_by, count_by, Option, Some, None, IfSome, IfNone, IsNone, MatchOption}
+-- What is printed of values meets the exact values, and is near the loose ones: the average and the uniformity.
+use Rattle.std.proofs.Common.{ℕ, zero, suc, ◌+◌, ◌-◌, ◌*◌, ◌/◌, ◌^◌, ◌<◌, ◌≤◌, ◌≡◌, Bool, true, false, min, List, length, arith, refl, sym, subst, ap, ◌∙◌, inl, inr, if◌then◌else◌, ◌==◌}
+use Rattle.std.specs.Prelude.{slice_index_or}
 use Rattle.std.specs.Int.{div_ceil}
-use Rattle.std.proofs.Math.Seq.{take-length}
-use Rattle.fx_base.specs.Fraction.{Fraction, ◌≤ᶠ◌, ◌<ᶠ◌, ◌+ᶠ◌, ◌*ᶠ◌, ◌/ᶠ◌, ratio, whole, half_power, lesser}
-use Rattle.fx_base.specs.Interval.{Interval, Meets, LiesIn, outward}
+use Rattle.std.proofs.lemmas.Bool.Decides.{nat_tests}
+use Rattle.std.proofs.lemmas.List.{get_or_default}
+use Rattle.fx_base.specs.Fraction.{Fraction, ◌≤ᶠ◌, ◌<ᶠ◌, ◌+ᶠ◌, ◌-ᶠ◌, ◌*ᶠ◌, ◌/ᶠ◌, ratio, whole, half_power, lesser}
+use Rattle.fx_base.specs.Interval.{Interval, InOrder, Meets, LiesIn, outward}
 use Rattle.fx_base.specs.Units.{ticks, natural, of_span}
-use Rattle.fx_base.proofs.Order.{le_refl_f, le_trans_f, add_le_f, le_add_f}
+use Rattle.fx_base.proofs.Order.{le_refl_f, le_trans_f, add_le_f, le_add_f, sub_le_f, lt_le_trans_f}
+use Rattle.fx_base.proofs.Ratios.{positive_above}
+use Rattle.fx_base.proofs.Rounding.{natural-mono}
 use Rattle.fx_base.proofs.Sums.{ticks_back, ticks_le}
-use Rattle.interval_system.specs.Values.{Grid, open_count, open_sum, mean, least, average, uniformity}
-use Rattle.lux_core.specs.Sums.{is_open, lower_end, upper_end, low_of, high_of, low_total, high_total, open_total, average_low, average_high, IsLeast, IsUniformity, IsValue}
+use Rattle.interval_system.specs.Values.{Grid, open_count, mean, least, average, uniformity}
+use Rattle.lux_core.specs.Printed.{said}
+use Rattle.lux_core.specs.Reports.{in_cents}
+use Rattle.lux_core.specs.Sums.{lower_end, upper_end, open_total, average_low, average_high, IsLeast, IsUniformity, IsValue}
 use Rattle.lux_core.specs.declared.points.PointValue.{PointValue}
-use Rattle.lux_core.proofs.Means.{AreCoveredBy, no_point, open_number, sums_above, sums_below, counts, quotient_above, quotient_below, quotient_near_above, quotient_near_below}
-use Rattle.lux_core.proofs.Uniform.{below_least, least_below, least_below_mean}
+use Rattle.lux_core.proofs.Means.{AreCoveredBy, no_point}
+use Rattle.lux_core.proofs.Printing.{printed_meets, printed_near}
+use Rattle.lux_core.proofs.Shares.{IsDown, IsUp, is_down, is_up, down_meets, down_most, up_meets, down_near, up_near}
+use Rattle.lux_core.proofs.TickMeans.{count_is, mean_above, mean_below, mean_near_above, mean_near_below, least_above, least_below_ticks}
+use Rattle.lux_core.proofs.Uniform.{least_below_mean, mean_le}
 
--- ---- the average of values, in ticks
+-- ---- values and a grid
 
-count_is : (vs : List PointValue) (covered : ℕ → Bool) → AreCoveredBy vs covered → open_count covered (length vs) ≡ open_total vs
-count_is vs covered same = counts vs covered same (length vs) (omega arith) ∙ ap (λ (xs : List PointValue). count_by is_open xs) (take-length vs)
+-- the values in ticks meet those of a grid, whose intervals are in order
+pub record AreMeeting (x : Grid) (vs : List PointValue) : Type 0 where
+  pub count : x.points ≡ length vs
+  pub covered : AreCoveredBy vs x.covered
+  pub meets : (g : ℕ) (d : PointValue) → g < length vs → Meets (of_span (slice_index_or vs g d).value) (x.value g)
+  pub order : (g : ℕ) → InOrder (x.value g)
 
-all_above : (number : PointValue → ℕ) (vs : List PointValue) (covered : ℕ → Bool) (f : ℕ → Fraction) → AreCoveredBy vs covered
-    → ((g : ℕ) (d : PointValue) → g < length vs → covered g ≡ false → ticks (number (slice_index_or vs g d)) ≤ᶠ f g)
-    → ticks (sum_by (open_number number) vs) ≤ᶠ open_sum covered f (length vs)
-all_above number vs covered f same h =
-    let P : List PointValue → Type 0 = λ xs. ticks (sum_by (open_number number) xs) ≤ᶠ open_sum covered f (length vs) in
-    subst P (take-length vs) (sums_above number vs covered f same h (length vs) (omega arith))
+-- they lie in those of a grid
+pub record AreNear (y : Grid) (vs : List PointValue) : Type 0 where
+  pub count : y.points ≡ length vs
+  pub covered : AreCoveredBy vs y.covered
+  pub near : (g : ℕ) (d : PointValue) → g < length vs → LiesIn (of_span (slice_index_or vs g d).value) (y.value g)
+  pub order : (g : ℕ) → InOrder (y.value g)
 
-all_below : (number : PointValue → ℕ) (vs : List PointValue) (covered : ℕ → Bool) (f : ℕ → Fraction) → AreCoveredBy vs covered
-    → ((g : ℕ) (d : PointValue) → g < length vs → covered g ≡ false → f g ≤ᶠ ticks (number (slice_index_or vs g d)))
-    → open_sum covered f (length vs) ≤ᶠ ticks (sum_by (open_number number) vs)
-all_below number vs covered f same h =
-    let P : List PointValue → Type 0 = λ xs. open_sum covered f (length vs) ≤ᶠ ticks (sum_by (open_number number) xs) in
-    subst P (take-length vs) (sums_below number vs covered f same h (length vs) (omega arith))
+-- ---- the average
 
-mean_above : (vs : List PointValue) (covered : ℕ → Bool) (f : ℕ → Fraction) → AreCoveredBy vs covered → 0 < open_total vs
-    → ((g : ℕ) (d : PointValue) → g < length vs → covered g ≡ false → ticks (lower_end (slice_index_or vs g d)) ≤ᶠ f g)
-    → ticks (average_low vs) ≤ᶠ mean covered f (length vs)
-unfolding mean
-mean_above vs covered f same some h = rw (count_is vs covered same) (quotient_above (low_total vs) (open_total vs) (open_sum covered f (length vs)) some (all_above lower_end vs covered f same h))
+pub average_meets : (x : Grid) (vs : List PointValue) → AreMeeting x vs → 0 < open_total vs → Meets (record { lo = ticks (average_low vs); hi = ticks (average_high vs) }) (average x)
+unfolding average
+average_meets x vs m some = rw m.count (record {
+    above = mean_above vs x.covered (λ g. (x.value g).hi) m.covered some (λ g d l o. (m.meets g d l).above);
+    below = mean_below vs x.covered (λ g. (x.value g).lo) m.covered some (λ g d l o. (m.meets g d l).below);
+  })
 
-mean_below : (vs : List PointValue) (covered : ℕ → Bool) (f : ℕ → Fraction) → AreCoveredBy vs covered → 0 < open_total vs
-    → ((g : ℕ) (d : PointValue) → g < length vs → covered g ≡ false → f g ≤ᶠ ticks (upper_end (slice_index_or vs g d)))
-    → mean covered f (length vs) ≤ᶠ ticks (average_high vs)
-unfolding mean
-mean_below vs covered f same some h = rw (count_is vs covered same) (quotient_below (high_total vs) (open_total vs) (open_sum covered f (length vs)) some (all_below upper_end vs covered f same h))
+pub average_near_low : (y : Grid) (vs : List PointValue) → AreNear y vs → 0 < open_total vs → (average y).lo ≤ᶠ (ticks (average_low vs) +ᶠ ticks 1)
+unfolding average
+average_near_low y vs m some = rw m.count (mean_near_above vs y.covered (λ g. (y.value g).lo) m.covered some (λ g d l o. (m.near g d l).lower))
 
-mean_near_above : (vs : List PointValue) (covered : ℕ → Bool) (f : ℕ → Fraction) → AreCoveredBy vs covered → 0 < open_total vs
-    → ((g : ℕ) (d : PointValue) → g < length vs → covered g ≡ false → f g ≤ᶠ ticks (lower_end (slice_index_or vs g d)))
-    → mean covered f (length vs) ≤ᶠ (ticks (average_low vs) +ᶠ ticks 1)
-unfolding mean
-mean_near_above vs covered f same some h = rw (count_is vs covered same) (quotient_near_above (low_total vs) (open_total vs) (open_sum covered f (length vs)) some (all_below lower_end vs covered f same h))
+pub average_near_high : (y : Grid) (vs : List PointValue) → AreNear y vs → 0 < open_total vs → ticks (average_high vs) ≤ᶠ ((average y).hi +ᶠ ticks 1)
+unfolding average
+average_near_high y vs m some = rw m.count (mean_near_below vs y.covered (λ g. (y.value g).hi) m.covered some (λ g d l o. (m.near g d l).upper))
 
-mean_near_below : (vs : List PointValue) (covered : ℕ → Bool) (f : ℕ → Fraction) → AreCoveredBy vs covered → 0 < open_total vs
-    → ((g : ℕ) (d : PointValue) → g < length vs → covered g ≡ false → ticks (upper_end (slice_index_or vs g d)) ≤ᶠ f g)
-    → ticks (average_high vs) ≤ᶠ (mean covered f (length vs) +ᶠ ticks 1)
-unfolding mean
-mean_near_below vs covered f same some h = rw (count_is vs covered same) (quotient_near_below (high_total vs) (open_total vs) (open_sum covered f (length vs)) some (all_above upper_end vs covered f same h))
+-- ---- the uniformity
 
--- ---- the least of values, in ticks
+ends_order : (v : PointValue) → IsValue v → lower_end v ≤ upper_end v
+ends_order v h = natural-mono v.value.lo v.value.hi h.low h.order
 
-least_above : (number : PointValue → ℕ) (vs : List PointValue) (covered : ℕ → Bool) (f : ℕ → Fraction) (a : ℕ) → AreCoveredBy vs covered → 0 < open_total vs → IsLeast number vs a
-    → ((g : ℕ) (d : PointValue) → g < length vs → covered g ≡ false → ticks (number (slice_index_or vs g d)) ≤ᶠ f g) → ticks a ≤ᶠ least covered f (length vs)
-least_above number vs covered f a same some is h =
-    below_least covered f (ticks a) (length vs) (rw (count_is vs covered same) some)
-    (λ g l o. le_trans_f (ticks_le a (number (slice_index_or vs g no_point)) (is.below g no_point l (same g no_point l ∙ o))) (h g no_point l o))
+same_default : (number : PointValue → ℕ) (vs : List PointValue) (g : ℕ) (d : PointValue) → g < length vs → number (slice_index_or vs g d) ≤ number (slice_index_or vs g no_point)
+same_default number vs g d l = omega (arith, ap number (get_or_default vs g d no_point l))
 
-least_below_ticks : (number : PointValue → ℕ) (vs : List PointValue) (covered : ℕ → Bool) (f : ℕ → Fraction) (a : ℕ) → AreCoveredBy vs covered → IsLeast number vs a
-    → ((g : ℕ) (d : PointValue) → g < length vs → covered g ≡ false → f g ≤ᶠ ticks (number (slice_index_or vs g d))) → least covered f (length vs) ≤ᶠ ticks a
-least_below_ticks number vs covered f a same is h =
-    let w = is.attained no_point in
-    let o : covered (w.0) ≡ false = sym (same (w.0) no_point (w.1)) ∙ w.2 in
-    let P : ℕ → Type 0 = λ t. f (w.0) ≤ᶠ ticks t in
-    le_trans_f (least_below covered f (length vs) (w.0) (w.1) o) (subst P (w.3) (h (w.0) no_point (w.1) o))
+default_same : (number : PointValue → ℕ) (vs : List PointValue) (g : ℕ) (d : PointValue) → g < length vs → number (slice_index_or vs g no_point) ≤ number (slice_index_or vs g d)
+default_same number vs g d l = omega (arith, ap number (get_or_default vs g d no_point l))
+
+-- the least lower end is at most the average's upper end
+pub least_within_average : (vs : List PointValue) (covered : ℕ → Bool) (a : ℕ) → AreCoveredBy vs covered → 0 < open_total vs → IsLeast lower_end vs a
+    → ((g : ℕ) (d : PointValue) → g < length vs → IsValue (slice_index_or vs g d)) → a ≤ average_high vs
+least_within_average vs covered a same some is each =
+    let low : ℕ → Fraction = λ g. ticks (lower_end (slice_index_or vs g no_point)) in
+    let high : ℕ → Fraction = λ g. ticks (upper_end (slice_index_or vs g no_point)) in
+    let one = least_above lower_end vs covered low a same some is (λ g d l o. ticks_le (lower_end (slice_index_or vs g d)) (lower_end (slice_index_or vs g no_point)) (same_default lower_end vs g d l)) in
+    let two = least_below_mean covered low high (length vs) (rw (count_is vs covered same) some) (λ g l o. ticks_le (lower_end (slice_index_or vs g no_point)) (upper_end (slice_index_or vs g no_point)) (ends_order (slice_index_or vs g no_point) (each g no_point l))) in
+    let three = mean_below vs covered high same some (λ g d l o. ticks_le (upper_end (slice_index_or vs g no_point)) (upper_end (slice_index_or vs g d)) (default_same upper_end vs g d l)) in
+    ticks_back a (average_high vs) (le_trans_f one (le_trans_f two three))
+
+at_test : (b : Bool) (x y a : Fraction) → (b ≡ true → a ≤ᶠ x) → (b ≡ false → a ≤ᶠ y) → a ≤ᶠ (if b then x else y)
+at_test true x y a f g = f refl
+at_test false x y a f g = g refl
+
+pub down_uniformity : (x : Grid) (vs : List PointValue) (a n : ℕ) → AreMeeting x vs → 0 < open_total vs → IsLeast lower_end vs a → IsDown a (average_high vs) n
+    → ratio n 1000 ≤ᶠ (uniformity x).hi
+unfolding uniformity
+down_uniformity x vs a n m some is d =
+    at_test ((average x).lo.num == 0) (whole 1) (lesser (whole 1) (least x.covered (λ g. (x.value g).hi) x.points /ᶠ (average x).lo)) (ratio n 1000)
+    (λ t. down_most a (average_high vs) n d)
+    (λ t. down_meets a (average_high vs) n (least x.covered (λ g. (x.value g).hi) x.points) (average x).lo d
+        (rw m.count (least_above lower_end vs x.covered (λ g. (x.value g).hi) a m.covered some is (λ g e l o. (m.meets g e l).above)))
+        (average_meets x vs m some).below
+        (grind (arith, nat_tests)))
+
+order_mean : (x : Grid) (vs : List PointValue) → AreMeeting x vs → 0 < open_total vs → least x.covered (λ g. (x.value g).lo) x.points ≤ᶠ (average x).hi
+unfolding average
+order_mean x vs m some = least_below_mean x.covered (λ g. (x.value g).lo) (λ g. (x.value g).hi) x.points (rw (m.count, count_is vs x.covered m.covered) some) (λ g l o. m.order g)
+
+ticks_positive : (t : ℕ) → 0 < t → 0 < (ticks t).num
+unfolding ticks
+ticks_positive t p = p
+
+pub up_uniformity : (x : Grid) (vs : List PointValue) (a n : ℕ) → AreMeeting x vs → 0 < open_total vs → 0 < average_low vs → IsLeast upper_end vs a → IsUp a (average_low vs) n
+    → (uniformity x).lo ≤ᶠ ratio n 1000
+unfolding uniformity
+up_uniformity x vs a n m some positive is u =
+    up_meets a (average_low vs) n (least x.covered (λ g. (x.value g).lo) x.points) (average x).hi u
+    (rw m.count (least_below_ticks upper_end vs x.covered (λ g. (x.value g).lo) a m.covered is (λ g e l o. (m.meets g e l).below)))
+    (average_meets x vs m some).above
+    (positive_above (ticks_positive (average_low vs) positive) (average_meets x vs m some).above)
+    (order_mean x vs m some)
+
+none_below : (t : ℕ) → 0 < t → whole 0 <ᶠ ticks t
+unfolding whole ticks
+none_below t p = record { cross = omega arith }
+
+pub positive_average : (x : Grid) (vs : List PointValue) → AreMeeting x vs → 0 < open_total vs → 0 < average_low vs → whole 0 <ᶠ (average x).hi
+positive_average x vs m some positive = lt_le_trans_f (none_below (average_low vs) positive) (average_meets x vs m some).above
+
+-- ---- near the loose uniformity
+
+order_mean_near : (y : Grid) (vs : List PointValue) → AreNear y vs → 0 < open_total vs → least y.covered (λ g. (y.value g).lo) y.points ≤ᶠ (average y).hi
+unfolding average
+order_mean_near y vs m some = least_below_mean y.covered (λ g. (y.value g).lo) (λ g. (y.value g).hi) y.points (rw (m.count, count_is vs y.covered m.covered) some) (λ g l o. m.order g)
+
+nearly_one : (t : ℕ) → whole 1 ≤ᶠ (ticks t +ᶠ ticks 1) → 68719476735 ≤ t
+unfolding whole ticks ◌+ᶠ◌
+nearly_one t h = let g = h.cross in omega arith
+
+half_one : (t : ℕ) → 68719476735 ≤ t → whole 1 ≤ᶠ (whole 2 *ᶠ ticks t)
+unfolding whole ticks ◌*ᶠ◌
+half_one t h = record { cross = omega arith }
+
+one_positive : 0 < (whole 1).num
+unfolding whole
+one_positive = omega arith
+
+average_order : (y : Grid) (vs : List PointValue) → AreNear y vs → 0 < open_total vs → (average y).lo ≤ᶠ (average y).hi
+unfolding average
+average_order y vs m some = mean_le y.covered (λ g. (y.value g).lo) (λ g. (y.value g).hi) y.points (rw (m.count, count_is vs y.covered m.covered) some) (λ g l o. m.order g)
+
+pub down_uniformity_near : (y : Grid) (vs : List PointValue) (a n : ℕ) → AreNear y vs → 0 < open_total vs → average_low vs ≤ average_high vs → IsLeast lower_end vs a → IsDown a (average_high vs) n
+    → whole 1 ≤ᶠ (average y).lo → ((uniformity y).lo -ᶠ ratio 2 1000) ≤ᶠ ratio n 1000
+unfolding uniformity
+down_uniformity_near y vs a n m some order is d one =
+    let big : 68719476735 ≤ average_low vs = nearly_one (average_low vs) (le_trans_f one (average_near_low y vs m some)) in
+    down_near a (average_high vs) n (least y.covered (λ g. (y.value g).lo) y.points) (average y).hi d
+    (rw m.count (least_below_ticks lower_end vs y.covered (λ g. (y.value g).lo) a m.covered is (λ g e l o. (m.near g e l).lower)))
+    (average_near_high y vs m some)
+    (positive_above one_positive (le_trans_f one (average_order y vs m some)))
+    (order_mean_near y vs m some)
+    (omega (arith, big, order))
+    (half_one (average_high vs) (omega (arith, big, order)))
+
+pub up_uniformity_near : (y : Grid) (vs : List PointValue) (a n : ℕ) → AreNear y vs → 0 < open_total vs → IsLeast upper_end vs a → IsUp a (average_low vs) n
+    → whole 1 ≤ᶠ (average y).lo → ratio n 1000 ≤ᶠ ((uniformity y).hi +ᶠ ratio 2 1000)
+unfolding uniformity
+up_uniformity_near y vs a n m some is u one =
+    let p : 0 < (average y).lo.num = positive_above one_positive one in
+    let e : ((average y).lo.num == 0) ≡ false = grind (arith, nat_tests) in
+    rw e (up_near a (average_low vs) n (least y.covered (λ g. (y.value g).hi) y.points) (average y).lo u
+        (rw m.count (least_above upper_end vs y.covered (λ g. (y.value g).hi) a m.covered some is (λ g f l o. (m.near g f l).upper)))
+        (average_near_low y vs m some) one)

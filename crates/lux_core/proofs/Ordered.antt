@@ -1,0 +1,104 @@
+-- The enclosures of direct light aren't empty: each lower end is at most its upper end.
+use Rattle.std.proofs.Common.{ℕ, zero, suc, ◌+◌, ◌*◌, ◌<◌, ◌≤◌, ◌≡◌, Bool, true, false, ◌&&◌, nat_lt, List, length, arith, refl, ap, subst, if◌then◌else◌}
+use Rattle.std.specs.Prelude.{slice_index_or}
+use Rattle.std.proofs.Math.Nat.{mul-pos}
+use Rattle.fx_base.specs.Fraction.{Fraction, ◌≤ᶠ◌, ◌+ᶠ◌, ◌-ᶠ◌, ◌*ᶠ◌, ◌/ᶠ◌, ratio, whole, half_power, sum_to}
+use Rattle.fx_base.specs.Interval.{Interval, InOrder, exact, outward, sum_of}
+use Rattle.fx_base.specs.Root.{root}
+use Rattle.fx_base.proofs.Order.{le_refl_f, le_trans_f, mul_le_f, le_add_f, sub_le_self_f}
+use Rattle.fx_base.proofs.Ratios.{over_le, ratio_le_ratio}
+use Rattle.fx_base.proofs.RootLaws.{root_nested}
+use Rattle.fx_base.proofs.Sums.{sum_to_le}
+use Rattle.room_layout.specs.Place.{Place, in_front, squared_distance}
+use Rattle.room_layout.specs.declared.geometry.Face.{Face}
+use Rattle.room_layout.specs.declared.room.Lamp.{Lamp}
+use Rattle.room_layout.specs.declared.room.Shine.{Shine}
+use Rattle.room_layout.specs.declared.room.Shine.TheVariants.{Even, File}
+use Rattle.lux_core.specs.Light.{falloff, fallen, share_of, share, loose_share, intensity, loose_intensity, loosened, lamp_place, part_count, lamp_light, loose_lamp_light, light_of_first, loose_light_of_first, no_lamp}
+use Rattle.lux_core.proofs.Falls.{root_low_positive}
+
+-- ---- quotients, where the divisor may be 0
+
+none_by_nothing : (n : ℕ) (c : Fraction) → ratio n 0 ≤ᶠ c
+unfolding ratio
+none_by_nothing n c = record { cross = omega arith }
+
+by_nothing : (a b c : Fraction) → b.num ≡ 0 → (a /ᶠ b) ≤ᶠ c
+unfolding ◌/ᶠ◌
+by_nothing a b c e =
+    let f : 0 ≡ a.den * b.num = rw e (omega arith) in
+    let P : ℕ → Type 0 = λ d. ratio (a.num * b.den) d ≤ᶠ c in
+    subst P f (none_by_nothing (a.num * b.den) c)
+
+over_at : (a b c d : Fraction) (n : ℕ) → d.num ≡ n → a ≤ᶠ c → d ≤ᶠ b → (d.num ≡ 0 → b.num ≡ 0) → (a /ᶠ b) ≤ᶠ (c /ᶠ d)
+over_at a b c d zero e g h z = by_nothing a b (c /ᶠ d) (z e)
+over_at a b c d (suc n) e g h z = over_le (omega (arith, e)) g h
+
+over_le_any : (a b c d : Fraction) → a ≤ᶠ c → d ≤ᶠ b → (d.num ≡ 0 → b.num ≡ 0) → (a /ᶠ b) ≤ᶠ (c /ᶠ d)
+over_le_any a b c d g h z = over_at a b c d d.num refl g h z
+
+-- ---- falloff
+
+product_nothing : (r : ℕ) (d e : Fraction) → (0 < r → 0 < e.num) → (whole r *ᶠ e).num ≡ 0 → (whole r *ᶠ d).num ≡ 0
+unfolding whole ◌*ᶠ◌
+product_nothing zero d e p h = omega arith
+product_nothing (suc r) d e p h = absurd (let q = mul-pos {m = suc r} {n = e.num} (omega arith) (p (omega arith)) in omega (arith, q, h))
+
+falloff_order : (m s a r : ℕ) (i j d e : Fraction) → (0 < r → 0 < e.num) → i ≤ᶠ j → e ≤ᶠ d → falloff m s a r i d ≤ᶠ falloff m s a r j e
+unfolding falloff
+falloff_order m s a r i j d e p h g =
+    over_le_any (i *ᶠ ratio m 1000 *ᶠ whole (a * 4000000) /ᶠ (whole r *ᶠ d)) (whole s) (j *ᶠ ratio m 1000 *ᶠ whole (a * 4000000) /ᶠ (whole r *ᶠ e)) (whole s)
+    (over_le_any (i *ᶠ ratio m 1000 *ᶠ whole (a * 4000000)) (whole r *ᶠ d) (j *ᶠ ratio m 1000 *ᶠ whole (a * 4000000)) (whole r *ᶠ e)
+        (mul_le_f (mul_le_f h (le_refl_f (ratio m 1000))) (le_refl_f (whole (a * 4000000)))) (mul_le_f (le_refl_f (whole r)) g) (product_nothing r d e p))
+    (le_refl_f (whole s)) (λ z. z)
+
+fallen_order : (n m s a r : ℕ) (i : Interval) → InOrder i → InOrder (fallen n m s a r i)
+fallen_order n m s a r i h = falloff_order m s a r i.lo i.hi (root n r).hi (root n r).lo (root_low_positive n r) h ((root_nested r).order n)
+
+-- ---- shares
+
+chosen_order : (b : Bool) (i j : Interval) → InOrder i → InOrder j → InOrder (if b then i else j)
+chosen_order true i j g h = g
+chosen_order false i j g h = h
+
+share_order : (n : ℕ) (i : Interval) (l : Lamp) (q p : Place) (face : Face) (clear : Bool) → InOrder i → InOrder (share_of n i l q p face clear)
+unfolding share_of
+share_order n i l q p face clear h =
+    chosen_order (clear && nat_lt 0 (in_front face p q)) (fallen n l.maintenance (part_count l) (in_front face p q) (squared_distance p q) i) (exact (whole 0))
+    (fallen_order n l.maintenance (part_count l) (in_front face p q) (squared_distance p q) i h) (le_refl_f (whole 0))
+
+loosened_order : (i : Interval) → InOrder i → InOrder (loosened i)
+unfolding loosened
+loosened_order i h =
+    le_trans_f (sub_le_self_f (i.lo *ᶠ ratio 16777215 16777216) (half_power 20))
+    (le_trans_f (mul_le_f h (ratio_le_ratio 16777215 16777216 16777217 16777216 (omega arith) (omega arith) (omega arith))) (le_add_f (i.hi *ᶠ ratio 16777217 16777216) (half_power 20)))
+
+intensity_order : (s : Shine) → InOrder (intensity s)
+intensity_order (Even candela) = le_refl_f (whole candela)
+intensity_order (File file) = le_refl_f (whole 0)
+
+outward_order : (e : Fraction) (i : Interval) → InOrder i → InOrder (outward e i)
+outward_order e i h = le_trans_f (sub_le_self_f i.lo e) (le_trans_f h (le_add_f i.hi e))
+
+-- ---- sums
+
+pub lamp_order : (n : ℕ) (p : Place) (face : Face) (l : Lamp) → InOrder (lamp_light n p face l)
+unfolding lamp_light
+lamp_order n p face l = sum_to_le (part_count l) (λ k. (share n l (lamp_place l k) p face true).lo) (λ k. (share n l (lamp_place l k) p face true).hi)
+    (λ k h. share_order n (intensity l.shine) l (lamp_place l k) p face true (intensity_order l.shine))
+
+pub loose_lamp_order : (n : ℕ) (p : Place) (face : Face) (l : Lamp) → InOrder (loose_lamp_light n p face l)
+unfolding loose_lamp_light
+loose_lamp_order n p face l = sum_to_le (part_count l) (λ k. (loose_share n l (lamp_place l k) p face true).lo) (λ k. (loose_share n l (lamp_place l k) p face true).hi)
+    (λ k h. loosened_order (share_of n (loose_intensity l.shine) l (lamp_place l k) p face true)
+        (share_order n (loose_intensity l.shine) l (lamp_place l k) p face true (outward_order (half_power 30) (intensity l.shine) (intensity_order l.shine))))
+
+pub direct_order : (n count : ℕ) (lamps : List Lamp) (p : Place) (face : Face) → InOrder (light_of_first n count lamps p face)
+unfolding light_of_first
+direct_order n count lamps p face = sum_to_le count (λ k. (lamp_light n p face (slice_index_or lamps k no_lamp)).lo) (λ k. (lamp_light n p face (slice_index_or lamps k no_lamp)).hi)
+    (λ k h. lamp_order n p face (slice_index_or lamps k no_lamp))
+
+pub loose_direct_order : (n count : ℕ) (lamps : List Lamp) (p : Place) (face : Face) → InOrder (loose_light_of_first n count lamps p face)
+unfolding loose_light_of_first
+loose_direct_order n count lamps p face = sum_to_le count (λ k. (loose_lamp_light n p face (slice_index_or lamps k no_lamp)).lo) (λ k. (loose_lamp_light n p face (slice_index_or lamps k no_lamp)).hi)
+    (λ k h. loose_lamp_order n p face (slice_index_or lamps k no_lamp))
