@@ -1,2 +1,4 @@
-pub mod Files
 pub mod Faults
+pub mod Files
+pub mod MemShelf
+pub mod MemSink
