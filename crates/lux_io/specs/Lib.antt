@@ -1,4 +1,5 @@
 pub mod Faults
 pub mod Files
+mod FilesTests
 pub mod MemShelf
 pub mod MemSink

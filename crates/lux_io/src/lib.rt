@@ -12,6 +12,8 @@ mod put;
 mod shelf;
 mod sink;
 mod take;
+#[cfg(test)]
+mod tests;
 
 pub use folder::FolderShelf;
 pub use mem_shelf::MemShelf;
