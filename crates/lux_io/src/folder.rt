@@ -1,5 +1,5 @@
 // The files of a folder, as the operating system has them.
-ghost use Rattle.std.specs.Prelude.{None, [], is_some};
+ghost use Rattle.std.specs.Prelude.{◌≡◌, None, [], false};
 
 use crate::count::count_one;
 use crate::{OpenFault, ReadFailed, Shelf};
@@ -19,8 +19,14 @@ pub struct FolderShelf<'a, R: Files> {
 }
 
 impl<R: Files> FolderShelf<'_, R> {
+    ghost use Rattle.lux_io.specs.Adapters.{folder_is_open, folder_faults, folder_absences};
+
     /// The files that this runtime reaches, with no file open.
-    pub fn new(rt: &R) -> FolderShelf<'_, R> {
+    pub fn new(rt: &R) -> FolderShelf<'_, R>
+        ensures closed { folder_is_open result ≡ false }
+        ensures faults { folder_faults result ≡ 0 }
+        ensures absences { folder_absences result ≡ 0 }
+    {
         FolderShelf {
             rt,
             file: None,
@@ -32,17 +38,19 @@ impl<R: Files> FolderShelf<'_, R> {
 }
 
 impl<R: Files> Shelf for FolderShelf<'_, R> {
+    ghost use Rattle.lux_io.specs.Adapters.{folder_is_open, folder_taken, folder_faults, folder_absences};
+
     ghost files = { λ _. None };
 
-    ghost is_open = { λ shelf. is_some shelf.file };
+    ghost is_open = { λ shelf. folder_is_open shelf };
 
     ghost file = { λ _. [] };
 
-    ghost taken = { λ shelf. shelf.taken };
+    ghost taken = { λ shelf. folder_taken shelf };
 
-    ghost faults = { λ shelf. shelf.faults };
+    ghost faults = { λ shelf. folder_faults shelf };
 
-    ghost absences = { λ shelf. shelf.absences };
+    ghost absences = { λ shelf. folder_absences shelf };
 
     fn open(&mut self, name: &str) -> Result<(), OpenFault> {
         self.file = None;

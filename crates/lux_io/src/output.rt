@@ -1,5 +1,5 @@
 // Standard output.
-ghost use Rattle.std.specs.Prelude.{None};
+ghost use Rattle.std.specs.Prelude.{◌≡◌, None};
 
 use crate::count::count_one;
 use crate::{Sink, WriteFailed};
@@ -12,16 +12,22 @@ pub struct OutSink<'a, R: Print> {
 }
 
 impl<R: Print> OutSink<'_, R> {
+    ghost use Rattle.lux_io.specs.Adapters.{output_faults};
+
     /// The output of this runtime.
-    pub fn new(rt: &R) -> OutSink<'_, R> {
+    pub fn new(rt: &R) -> OutSink<'_, R>
+        ensures faults { output_faults result ≡ 0 }
+    {
         OutSink { rt, faults: 0 }
     }
 }
 
 impl<R: Print> Sink for OutSink<'_, R> {
+    ghost use Rattle.lux_io.specs.Adapters.{output_faults};
+
     ghost written = { λ _. None };
 
-    ghost faults = { λ sink. sink.faults };
+    ghost faults = { λ sink. output_faults sink };
 
     fn write(&mut self, piece: &[u8]) -> Result<usize, WriteFailed> {
         if let Ok(count) = self.rt.write_some(piece) {
