@@ -1,5 +1,5 @@
 -- What a shelf of files and a sink of bytes hold, and what a call of theirs may do.
-use Rattle.std.specs.Prelude.{◌≡◌, ℕ, ◌+◌, ◌-◌, ◌^◌, ◌<◌, ◌≤◌, min, List, [], ◌∷◌, ◌++◌, length, take, drop, Option, Some, None, Result, OnErr, if◌then◌else◌}
+use Rattle.std.specs.Prelude.{◌≡◌, ◌≢◌, ℕ, ◌+◌, ◌-◌, ◌^◌, ◌<◌, ◌≤◌, min, List, [], ◌∷◌, ◌++◌, length, take, drop, Option, Some, None, Result, OnErr, if◌then◌else◌}
 use Rattle.std.specs.Option.{option_map}
 use Rattle.std.specs.Str.{bytes_eq}
 
@@ -41,3 +41,8 @@ pub record AddsPrefix (before now : Option (List ℕ)) (text : List ℕ) : Type 
   pub count : ℕ
   pub proper : count < length text
   pub bytes : now ≡ with_bytes before (take count text)
+
+-- After a file was put under a name: the name has these bytes, and every other name what it had.
+pub record Puts (old new : List (List ℕ × List ℕ)) (name bytes : List ℕ) : Type 0 where
+  pub put : bytes_of name new ≡ Some bytes
+  pub others : (other : List ℕ) → other ≢ name → bytes_of other new ≡ bytes_of other old

@@ -1,2 +1,6 @@
-pub mod Files
+pub mod Adapters
 pub mod Faults
+pub mod Files
+mod FilesTests
+pub mod MemShelf
+pub mod MemSink
