@@ -1,0 +1,4 @@
+pub mod Views
+pub mod Each
+pub mod Ranges
+pub mod Elements
