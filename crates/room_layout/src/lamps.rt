@@ -1,7 +1,7 @@
 //! The lamps of a layout, and the files that they use.
-ghost use Rattle.std.specs.Prelude.{◌≡◌, ◌≢◌, ◌≤◌, ◌<◌, ◌^◌, map, [], length, option_map, Result, Ok, Err, IfOk, IfErr};
+ghost use Rattle.std.specs.Prelude.{◌≡◌, ◌≢◌, ◌≤◌, map, [], length, position, option_map, Result, Ok, Err, IfOk, IfErr, OnOk};
 ghost use Rattle.toml.specs.View.{view, table_view};
-ghost use Rattle.room_layout.specs.Layout.{has_margin, is_lamp_inside, lamp_from, shine_of, lamp_of, lamps_from, lamps_of, placed};
+ghost use Rattle.room_layout.specs.Layout.{is_same_use, has_margin, is_lamp_inside, lamp_from, shine_of, lamp_of, lamps_from, lamps_of, placed};
 
 use crate::check::{elements, member, name_where_given, number_where_given, optional_number, optional_numbers, required_numbers, table_with};
 use crate::parts::Lit;
@@ -46,9 +46,10 @@ fn read_each(alloc: Global, values: &[Value], room: Size) -> Result<Lit, RoomFau
 /// The lamp at this index. A file that no earlier lamp uses is added to `files`.
 #[tactic(auto, unfolding(crate::specs::Layout::lamp_of))]
 fn read_lamp(alloc: Global, files: &mut Vec<FileUse>, value: &Value, index: u32, room: Size) -> Result<Lamp, RoomFault>
-    requires { length files.old.items < 2 ^ 32 }
+    requires { length files.old.items ≤ 16 }
     ensures given { IfOk result (λ lamp. lamp_of room index files.old.items (view value.now) ≡ Ok (lamp, files.new.items)) }
     ensures refused { IfErr result (λ e. e ≢ RoomFault.Memory → lamp_of room index files.old.items (view value.now) ≡ Err e) }
+    ensures few { OnOk result (length files.new.items ≤ 16) }
 {
     let table = table_with(value, &["at", "candela", "file", "set", "turn", "maintenance", "size", "split"], Spot::at(Key::Lamp, index))?;
     let at = required_numbers::<3>(table, "at", 0, 50_000, Spot::at(Key::LampAt, index))?;
@@ -82,7 +83,7 @@ fn read_lamp(alloc: Global, files: &mut Vec<FileUse>, value: &Value, index: u32,
 /// How the lamp at this index shines: by its candela or its file, of which it has exactly one.
 #[tactic(auto, unfolding(crate::specs::Layout::shine_of))]
 fn read_shine(alloc: Global, files: &mut Vec<FileUse>, index: u32, set: u32, candela: Option<u32>, file: Option<&str>) -> Result<Shine, RoomFault>
-    requires { length files.old.items < 2 ^ 32 }
+    requires { length files.old.items ≤ 16 }
     ensures given { IfOk result (λ shine. shine_of index files.old.items set candela (option_map (λ name. name.now) file.entry) ≡ Ok (shine, files.new.items)) }
     ensures refused { IfErr result (λ e. e ≢ RoomFault.Memory → shine_of index files.old.items set candela (option_map (λ name. name.now) file.entry) ≡ Err e) }
 {
@@ -99,17 +100,26 @@ fn read_shine(alloc: Global, files: &mut Vec<FileUse>, index: u32, set: u32, can
 
 /// The index of the file and lamp set among the files, to which they are added where they aren't there.
 fn file_place(alloc: Global, files: &mut Vec<FileUse>, name: &str, set: u32) -> Result<u32, RoomFault>
-    requires { length files.old.items < 2 ^ 32 }
+    requires { length files.old.items ≤ 16 }
     ensures given { IfOk result (λ place. placed (record { name = name.now; set = set }) files.old.items ≡ (place, files.new.items)) }
     ensures refused { IfErr result (λ e. e ≡ RoomFault.Memory) }
 {
-    if let Some(place) = files.iter().position(|f| name == f.name.text() && set == f.set) {
-        return Ok(place as u32);
+    match use_position(files, name, set) {
+        Some(place) => Ok(place as u32),
+        None => {
+            let place = files.len() as u32;
+            let name = Name::from_text(alloc, name)?;
+            files.push(FileUse { name, set })?;
+            Ok(place)
+        }
     }
-    let place = files.len() as u32;
-    let name = Name::from_text(alloc, name)?;
-    files.push(FileUse { name, set })?;
-    Ok(place)
+}
+
+/// The index of the file and lamp set among the files, where they are there.
+fn use_position(files: &[FileUse], name: &str, set: u32) -> Option<usize>
+    ensures { result ≡ position (is_same_use (record { name = name.now; set = set })) files.now }
+{
+    files.iter().position(|f| name == f.name.text() && set == f.set)
 }
 
 /// Whether the lamp's place is within the room, and its rectangle too.
