@@ -1,5 +1,5 @@
 -- What a check that gives a value says of it.
-use Rattle.std.proofs.Common.{◌≡◌, ℕ, ℤ, pos, negsuc, ◌<◌, ◌≤◌, ◌==◌, ◌&&◌, zero, suc, Bool, true, false, nat_le, if◌then◌else◌, List, [], ◌∷◌, length, get_or, Option, Some, None, Result, Ok, Err, refl, ap, subst, arith}
+use Rattle.std.proofs.Common.{◌≡◌, ℕ, ℤ, pos, negsuc, ◌<◌, ◌≤◌, ◌==◌, ◌&&◌, zero, suc, Bool, true, false, nat_le, if◌then◌else◌, List, [], ◌∷◌, length, get_or, Option, Some, None, Result, Ok, Err, refl, ap, subst, lit<, lit≤, arith}
 use Rattle.std.specs.List.{list_all}
 use Rattle.std.proofs.lemmas.Bool.{and_parts}
 use Rattle.std.proofs.lemmas.Bool.Decides.{nat_tests}
@@ -14,6 +14,10 @@ use Rattle.room_layout.specs.Accepted.{IsBetween}
 pub bind_ok : {A B : Type 0} (r : Result A RoomFault) (next : A → Result B RoomFault) (y : B) → (r >>= next) ≡ Ok y → (x : A) × (r ≡ Ok x) × (next x ≡ Ok y)
 bind_ok (Ok x) next y e = (x, refl, e)
 bind_ok (Err f) next y e = absurd (cc)
+
+-- two values that a check gives at once are one
+pub ok_same : {A : Type 0} (x y : A) → ◌≡◌ {A = Result A RoomFault} (Ok x) (Ok y) → x ≡ y
+ok_same x y e = cc
 
 -- a test that was demanded holds
 pub demand_ok : (b : Bool) (f : RoomFault) (u : Unit {0}) → demand b f ≡ Ok u → b ≡ true
@@ -102,18 +106,18 @@ one_more_between count lo hi n ns first more = record { as_many = ap suc more.as
 -- the default of room.reflect
 pub no_reflects_between : AreBetween 6 0 950 (0 ∷ 0 ∷ 0 ∷ 0 ∷ 0 ∷ 0 ∷ [])
 no_reflects_between =
-    let zero_fits : IsBetween 0 950 0 = (omega arith, omega arith) in
+    let zero_fits : IsBetween 0 950 0 = (lit≤ tt, lit≤ tt) in
     one_more_between 5 0 950 0 _ zero_fits (one_more_between 4 0 950 0 _ zero_fits (one_more_between 3 0 950 0 _ zero_fits
     (one_more_between 2 0 950 0 _ zero_fits (one_more_between 1 0 950 0 _ zero_fits (one_more_between 0 0 950 0 _ zero_fits (none_between 0 950))))))
 
 -- the default of lamp.size
 pub no_size_between : AreBetween 2 0 5000 (0 ∷ 0 ∷ [])
 no_size_between =
-    let zero_fits : IsBetween 0 5000 0 = (omega arith, omega arith) in
+    let zero_fits : IsBetween 0 5000 0 = (lit≤ tt, lit≤ tt) in
     one_more_between 1 0 5000 0 _ zero_fits (one_more_between 0 0 5000 0 _ zero_fits (none_between 0 5000))
 
 -- the default of lamp.split
 pub no_split_between : AreBetween 2 1 8 (1 ∷ 1 ∷ [])
 no_split_between =
-    let one_fits : IsBetween 1 8 1 = (omega arith, omega arith) in
+    let one_fits : IsBetween 1 8 1 = (lit≤ tt, lit≤ tt) in
     one_more_between 1 1 8 1 _ one_fits (one_more_between 0 1 8 1 _ one_fits (none_between 1 8))

@@ -113,6 +113,13 @@ lamp_from at shine turn maintenance size split = record {
     size_x = slice_index size 0; size_y = slice_index size 1; split_x = slice_index split 0; split_y = slice_index split 1;
   }
 
+-- lamp i, where it is within the room and brings no seventeenth file
+unfoldable pub checked_lamp : Size → ℕ → Lamp → List FileUse → Result (Lamp × List FileUse) RoomFault
+checked_lamp room i lamp files = do
+  inside ← demand (is_lamp_inside lamp room) (fault.Outside (spot key.Lamp i))
+  few ← demand (nat_le (length files) 16) (fault.TooMany (spot key.LampFile i))
+  Ok (lamp, files)
+
 abbrev pub lamp_keys : List (List ℕ)
 lamp_keys = codes "at" ∷ codes "candela" ∷ codes "file" ∷ codes "set" ∷ codes "turn" ∷ codes "maintenance" ∷ codes "size" ∷ codes "split" ∷ []
 
@@ -129,10 +136,7 @@ lamp_of room i files d = do
   size ← optional (0 ∷ 0 ∷ []) (spot key.LampSize i) (numbers 2 0 5000) (get_member (codes "size") lamp)
   split ← optional (1 ∷ 1 ∷ []) (spot key.LampSplit i) (numbers 2 1 8) (get_member (codes "split") lamp)
   lit ← shine_of i files set candela file
-  let it = lamp_from at lit.0 turn maintenance size split
-  inside ← demand (is_lamp_inside it room) (fault.Outside (spot key.Lamp i))
-  few ← demand (nat_le (length lit.1) 16) (fault.TooMany (spot key.LampFile i))
-  Ok (it, lit.1)
+  checked_lamp room i (lamp_from at lit.0 turn maintenance size split) lit.1
 
 -- the lamps from lamp i on
 abbrev pub lamps_from : Size → ℕ → List FileUse → List Data → Result Lit RoomFault

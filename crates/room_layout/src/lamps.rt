@@ -44,7 +44,7 @@ fn read_each(alloc: Global, values: &[Value], room: Size) -> Result<Lit, RoomFau
 }
 
 /// The lamp at this index. A file that no earlier lamp uses is added to `files`.
-#[tactic(auto, unfolding(crate::specs::Layout::lamp_of))]
+#[tactic(auto, unfolding(crate::specs::Layout::lamp_of, crate::specs::Layout::checked_lamp))]
 fn read_lamp(alloc: Global, files: &mut Vec<FileUse>, value: &Value, index: u32, room: Size) -> Result<Lamp, RoomFault>
     requires { length files.old.items ≤ 16 }
     ensures given { IfOk result (λ lamp. lamp_of room index files.old.items (view value.now) ≡ Ok (lamp, files.new.items)) }

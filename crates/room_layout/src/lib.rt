@@ -7,6 +7,7 @@ mod check;
 mod fault;
 mod geometry;
 mod lamps;
+pub mod laws;
 mod parts;
 mod read;
 mod room;

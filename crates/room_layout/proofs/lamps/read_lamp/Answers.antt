@@ -1,11 +1,11 @@
 use Rattle.std.proofs.Common.{◌≡◌, nat_le, length, false, true, rules}
 use Rattle.std.proofs.lemmas.Bool.Decides.{nat_tests}
 use Rattle.std.proofs.lemmas.Result.{err_from_is_err_and}
-use Rattle.room_layout.specs.Layout.{lamp_of}
+use Rattle.room_layout.specs.Layout.{lamp_of, checked_lamp}
 use Rattle.room_layout.proofs.lamps.read_lamp.Goals as goal
 
 pub returns-in_err-file-clause-refused : goal.returns-in_err-file-clause-refused
-unfolding lamp_of
+unfolding lamp_of checked_lamp
 returns-in_err-file-clause-refused c =
     let p = err_from_is_err_and c.from_residual-in_err-file.result c.from_residual-in_err-file.ensures.1 in
     let table = rw c.at.ensures at c.in_ok-table.ensures.given in
@@ -15,7 +15,7 @@ returns-in_err-file-clause-refused c =
     rw (p.1, p.2) (λ _. rw (table, ← at, ← candela, fails))
 
 pub returns-in_err-set-clause-refused : goal.returns-in_err-set-clause-refused
-unfolding lamp_of
+unfolding lamp_of checked_lamp
 returns-in_err-set-clause-refused c =
     let p = err_from_is_err_and c.from_residual-in_err-set.result c.from_residual-in_err-set.ensures.1 in
     let table = rw c.at.ensures at c.in_ok-table.ensures.given in
@@ -26,7 +26,7 @@ returns-in_err-set-clause-refused c =
     rw (p.1, p.2) (λ _. rw (table, ← at, ← candela, file, ← fails))
 
 pub returns-in_err-turn-clause-refused : goal.returns-in_err-turn-clause-refused
-unfolding lamp_of
+unfolding lamp_of checked_lamp
 returns-in_err-turn-clause-refused c =
     let p = err_from_is_err_and c.from_residual-in_err-turn.result c.from_residual-in_err-turn.ensures.1 in
     let table = rw c.at.ensures at c.in_ok-table.ensures.given in
@@ -38,7 +38,7 @@ returns-in_err-turn-clause-refused c =
     rw (p.1, p.2) (λ _. rw (table, ← at, ← candela, file, ← set, ← fails))
 
 pub returns-in_err-maintenance-clause-refused : goal.returns-in_err-maintenance-clause-refused
-unfolding lamp_of
+unfolding lamp_of checked_lamp
 returns-in_err-maintenance-clause-refused c =
     let p = err_from_is_err_and c.from_residual-in_err-maintenance.result c.from_residual-in_err-maintenance.ensures.1 in
     let table = rw c.at.ensures at c.in_ok-table.ensures.given in
@@ -51,7 +51,7 @@ returns-in_err-maintenance-clause-refused c =
     rw (p.1, p.2) (λ _. rw (table, ← at, ← candela, file, ← set, ← turn, ← fails))
 
 pub returns-in_err-split-clause-refused : goal.returns-in_err-split-clause-refused
-unfolding lamp_of
+unfolding lamp_of checked_lamp
 returns-in_err-split-clause-refused c =
     let p = err_from_is_err_and c.from_residual-in_err-split.result c.from_residual-in_err-split.ensures.1 in
     let table = rw c.at.ensures at c.in_ok-table.ensures.given in
@@ -66,7 +66,7 @@ returns-in_err-split-clause-refused c =
     rw (p.1, p.2) (λ _. rw (table, ← at, ← candela, file, ← set, ← turn, ← maintenance, ← size, ← fails))
 
 pub returns-in_err-shine-clause-refused : goal.returns-in_err-shine-clause-refused
-unfolding lamp_of
+unfolding lamp_of checked_lamp
 returns-in_err-shine-clause-refused c =
     let p = err_from_is_err_and c.from_residual-in_err-shine.result c.from_residual-in_err-shine.ensures.1 in
     let table = rw c.at.ensures at c.in_ok-table.ensures.given in
@@ -81,7 +81,7 @@ returns-in_err-shine-clause-refused c =
     rw (p.1, p.2) (λ other. rw (table, ← at, ← candela, file, ← set, ← turn, ← maintenance, ← size, ← split, c.in_err-shine.ensures.refused other))
 
 pub returns-then-not-is_lamp_inside-clause-refused : goal.returns-then-not-is_lamp_inside-clause-refused
-unfolding lamp_of
+unfolding lamp_of checked_lamp
 returns-then-not-is_lamp_inside-clause-refused c =
     let table = rw c.at.ensures at c.in_ok-table.ensures.given in
     let at = rw c.at-2.ensures at c.in_ok-at.ensures in
@@ -96,7 +96,7 @@ returns-then-not-is_lamp_inside-clause-refused c =
     λ _. rw (table, ← at, ← candela, file, ← set, ← turn, ← maintenance, ← size, ← split, c.in_ok-shine.ensures.given, ← inside, c.if-not-is_lamp_inside.true, c.at-then-not-is_lamp_inside.ensures)
 
 pub returns-then-len-gt16-clause-refused : goal.returns-then-len-gt16-clause-refused
-unfolding lamp_of
+unfolding lamp_of checked_lamp
 returns-then-len-gt16-clause-refused c =
     let table = rw c.at.ensures at c.in_ok-table.ensures.given in
     let at = rw c.at-2.ensures at c.in_ok-at.ensures in
@@ -112,7 +112,7 @@ returns-then-len-gt16-clause-refused c =
     λ _. rw (table, ← at, ← candela, file, ← set, ← turn, ← maintenance, ← size, ← split, c.in_ok-shine.ensures.given, ← inside, c.if-not-is_lamp_inside.false, many, c.at-then-len-gt16.ensures)
 
 pub returns-clause-given : goal.returns-clause-given
-unfolding lamp_of
+unfolding lamp_of checked_lamp
 returns-clause-given c =
     let table = rw c.at.ensures at c.in_ok-table.ensures.given in
     let at = rw c.at-2.ensures at c.in_ok-at.ensures in
