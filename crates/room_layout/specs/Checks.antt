@@ -1,9 +1,8 @@
 -- How the value of one key is checked: its kind, then its range. Each check gives a value or the first fault.
-use Rattle.std.specs.Prelude.{ℕ, ◌==◌, Bool, true, false, not, ◌&&◌, nat_le, nat_lt, if◌then◌else◌, List, [], ◌∷◌, length, Option, Some, None, is_some, Result, Ok, Err, pos, negsuc, ℤ}
+use Rattle.std.specs.Prelude.{ℕ, ◌==◌, Bool, true, false, not, ◌&&◌, nat_le, if◌then◌else◌, List, [], ◌∷◌, length, Option, Some, None, is_some, option_map, Result, Ok, Err, pos, negsuc, ℤ}
 use Rattle.std.specs.List.{list_all, list_any}
 use Rattle.std.specs.Str.{bytes_eq}
-use Rattle.toml.specs.Data.{Data, Items, Members, get_member, as_integer}
-use Rattle.toml.specs.Data.Data.{integer, string, array, table}
+use Rattle.toml.specs.Data.{Data, Items, Members, as_integer, as_str, as_array, as_table}
 use Rattle.toml.specs.Data.Items.{no_items, item}
 use Rattle.toml.specs.Data.Members.{no_members, member}
 use Rattle.room_layout.specs.declared.fault.Key.{Key}
@@ -52,26 +51,39 @@ where_given s check (Some d) = check s d >>= λ x. Ok (Some x)
 abbrev pub in_range : ℕ → ℕ → ℕ → Bool
 in_range lo hi n = nat_le lo n && nat_le n hi
 
+-- the whole number of a signed one that is from lo to hi
+abbrev pub ranged : ℕ → ℕ → Spot → ℤ → Result ℕ RoomFault
+ranged lo hi s (pos n) = if in_range lo hi n then Ok n else Err (fault.Range s)
+ranged lo hi s (negsuc n) = Err (fault.Range s)
+
+-- a value of the kind that the key asks for
+abbrev pub kind : {A : Type 0} → Spot → Option A → Result A RoomFault
+kind s None = Err (fault.Kind s)
+kind s (Some x) = Ok x
+
 -- an integer from lo to hi
 abbrev pub number : ℕ → ℕ → Spot → Data → Result ℕ RoomFault
-number lo hi s (integer (pos n)) = if in_range lo hi n then Ok n else Err (fault.Range s)
-number lo hi s (integer (negsuc n)) = Err (fault.Range s)
-number lo hi s _ = Err (fault.Kind s)
-
-abbrev pub items_list : Items → List Data
-items_list no_items = []
-items_list (item d more) = d ∷ items_list more
+number lo hi s d = kind s (as_integer d) >>= ranged lo hi s
 
 abbrev pub is_integer : Data → Bool
 is_integer d = is_some (as_integer d)
 
+-- the values of an array's items
+abbrev pub items_list : Items → List Data
+items_list no_items = []
+items_list (item d more) = d ∷ items_list more
+
+-- an array
+abbrev pub array : Spot → Data → Result (List Data) RoomFault
+array s d = kind s (option_map items_list (as_array d))
+
+-- just so many integers, each from lo to hi
+abbrev pub all_numbers : ℕ → ℕ → ℕ → Spot → List Data → Result (List ℕ) RoomFault
+all_numbers count lo hi s ds = if (length ds == count) && list_all is_integer ds then each (number lo hi s) ds else Err (fault.Kind s)
+
 -- an array of just so many integers, each from lo to hi
 abbrev pub numbers : ℕ → ℕ → ℕ → Spot → Data → Result (List ℕ) RoomFault
-numbers count lo hi s (array items) =
-    if (length (items_list items) == count) && list_all is_integer (items_list items)
-    then each (number lo hi s) (items_list items)
-    else Err (fault.Kind s)
-numbers count lo hi s _ = Err (fault.Kind s)
+numbers count lo hi s d = array s d >>= all_numbers count lo hi s
 
 -- ---- names of files
 
@@ -82,9 +94,9 @@ is_printed byte = nat_le 32 byte && not (byte == 127)
 abbrev pub is_name : List ℕ → Bool
 is_name bytes = in_range 1 255 (length bytes) && list_all is_printed bytes
 
+-- a text that may name a file
 abbrev pub name_text : Spot → Data → Result (List ℕ) RoomFault
-name_text s (string bytes) = if is_name bytes then Ok bytes else Err (fault.Range s)
-name_text s _ = Err (fault.Kind s)
+name_text s d = kind s (as_str d) >>= λ bytes. if is_name bytes then Ok bytes else Err (fault.Range s)
 
 -- ---- tables
 
@@ -93,7 +105,7 @@ keys_of no_members = []
 keys_of (member k d more) = k ∷ keys_of more
 
 abbrev pub is_among : List (List ℕ) → List ℕ → Bool
-is_among known key = list_any (bytes_eq key) known
+is_among known key = list_any (λ k. bytes_eq k key) known
 
 -- no key of the table is another than these
 abbrev pub has_only : List (List ℕ) → Members → Bool
@@ -101,10 +113,8 @@ has_only known members = list_all (is_among known) (keys_of members)
 
 -- a table with no other keys than these
 abbrev pub table_with : List (List ℕ) → Spot → Data → Result Members RoomFault
-table_with known s (table members) = if has_only known members then Ok members else Err (fault.Unknown s)
-table_with known s _ = Err (fault.Kind s)
+table_with known s d = kind s (as_table d) >>= λ members. if has_only known members then Ok members else Err (fault.Unknown s)
 
 -- the elements of an array that has at most so many
 abbrev pub elements : ℕ → Spot → Data → Result (List Data) RoomFault
-elements most s (array items) = if nat_le (length (items_list items)) most then Ok (items_list items) else Err (fault.TooMany s)
-elements most s _ = Err (fault.Kind s)
+elements most s d = array s d >>= λ ds. if nat_le (length ds) most then Ok ds else Err (fault.TooMany s)

@@ -56,6 +56,9 @@ shell_of document = do
 abbrev pub box_keys : List (List ℕ)
 box_keys = codes "lo" ∷ codes "hi" ∷ codes "reflect" ∷ []
 
+abbrev pub block_from : List ℕ → List ℕ → ℕ → Block
+block_from lo hi reflect = record { lo = size_from lo; hi = size_from hi; reflect = reflect }
+
 -- box i of a room of this size
 unfoldable pub block_of : Size → ℕ → Data → Result Block RoomFault
 block_of room i d = do
@@ -63,9 +66,10 @@ block_of room i d = do
   lo ← required (spot key.BoxLo i) (numbers 3 0 50000) (get_member (codes "lo") box)
   hi ← required (spot key.BoxHi i) (numbers 3 0 50000) (get_member (codes "hi") box)
   reflect ← optional 0 (spot key.BoxReflect i) (number 0 950) (get_member (codes "reflect") box)
-  above ← demand (is_above (size_from hi) (size_from lo)) (fault.Range (spot key.BoxHi i))
-  inside ← demand (fits_in (size_from hi) room) (fault.Outside (spot key.Box i))
-  Ok (record { lo = size_from lo; hi = size_from hi; reflect = reflect })
+  let block = block_from lo hi reflect
+  above ← demand (is_above block.hi block.lo) (fault.Range (spot key.BoxHi i))
+  inside ← demand (fits_in block.hi room) (fault.Outside (spot key.Box i))
+  Ok block
 
 -- the boxes from box i on
 abbrev pub blocks_from : Size → ℕ → List Data → Result (List Block) RoomFault
@@ -99,9 +103,22 @@ shine_of i files set None (Some name) = let (index, more) = placed (record { nam
 abbrev pub has_margin : ℕ → ℕ → ℕ → Bool
 has_margin at size edge = nat_le size (2 * at) && nat_le (2 * at + size) (2 * edge)
 
--- a lamp of this size in both directions at this place is within a room
-abbrev pub is_lamp_inside : Size → List ℕ → Size → Bool
-is_lamp_inside at size room = fits_in at room && has_margin at.x (slice_index size 0) room.x && has_margin at.y (slice_index size 1) room.y
+-- the lamp's place is within the room, and its rectangle too
+abbrev pub is_lamp_inside : Lamp → Size → Bool
+is_lamp_inside l room = fits_in l.at room && has_margin l.at.x l.size_x room.x && has_margin l.at.y l.size_y room.y
+
+abbrev pub lamp_from : List ℕ → Shine → ℕ → ℕ → List ℕ → List ℕ → Lamp
+lamp_from at shine turn maintenance size split = record {
+    at = size_from at; shine = shine; turn = turn; maintenance = maintenance;
+    size_x = slice_index size 0; size_y = slice_index size 1; split_x = slice_index split 0; split_y = slice_index split 1;
+  }
+
+-- lamp i, where it is within the room and brings no seventeenth file
+unfoldable pub checked_lamp : Size → ℕ → Lamp → List FileUse → Result (Lamp × List FileUse) RoomFault
+checked_lamp room i lamp files = do
+  inside ← demand (is_lamp_inside lamp room) (fault.Outside (spot key.Lamp i))
+  few ← demand (nat_le (length files) 16) (fault.TooMany (spot key.LampFile i))
+  Ok (lamp, files)
 
 abbrev pub lamp_keys : List (List ℕ)
 lamp_keys = codes "at" ∷ codes "candela" ∷ codes "file" ∷ codes "set" ∷ codes "turn" ∷ codes "maintenance" ∷ codes "size" ∷ codes "split" ∷ []
@@ -119,21 +136,7 @@ lamp_of room i files d = do
   size ← optional (0 ∷ 0 ∷ []) (spot key.LampSize i) (numbers 2 0 5000) (get_member (codes "size") lamp)
   split ← optional (1 ∷ 1 ∷ []) (spot key.LampSplit i) (numbers 2 1 8) (get_member (codes "split") lamp)
   lit ← shine_of i files set candela file
-  inside ← demand (is_lamp_inside (size_from at) size room) (fault.Outside (spot key.Lamp i))
-  few ← demand (nat_le (length lit.1) 16) (fault.TooMany (spot key.LampFile i))
-  Ok (
-    record {
-      at = size_from at;
-      shine = lit.0;
-      turn = turn;
-      maintenance = maintenance;
-      size_x = slice_index size 0;
-      size_y = slice_index size 1;
-      split_x = slice_index split 0;
-      split_y = slice_index split 1;
-    },
-    lit.1,
-  )
+  checked_lamp room i (lamp_from at lit.0 turn maintenance size split) lit.1
 
 -- the lamps from lamp i on
 abbrev pub lamps_from : Size → ℕ → List FileUse → List Data → Result Lit RoomFault
@@ -148,6 +151,20 @@ lamps_of room document = optional [] (spot key.Lamp 0) (elements 256) (get_membe
 abbrev pub task_keys : List (List ℕ)
 task_keys = codes "from" ∷ codes "to" ∷ codes "height" ∷ codes "points" ∷ []
 
+abbrev pub task_from : List ℕ → List ℕ → ℕ → List ℕ → TaskGrid
+task_from from to height points = record {
+    from_x = slice_index from 0; from_y = slice_index from 1; to_x = slice_index to 0; to_y = slice_index to 1;
+    height = height; nx = slice_index points 0; ny = slice_index points 1;
+  }
+
+-- the task's far corner is above the near one on both axes
+abbrev pub is_rising : TaskGrid → Bool
+is_rising t = nat_lt t.from_x t.to_x && nat_lt t.from_y t.to_y
+
+-- neither the far corner nor the height passes the room
+abbrev pub is_task_inside : TaskGrid → Size → Bool
+is_task_inside t room = nat_le t.to_x room.x && nat_le t.to_y room.y && nat_le t.height room.z
+
 unfoldable pub task_of : Size → Members → Result TaskGrid RoomFault
 task_of room document = do
   task ← required (spot key.Task 0) (table_with task_keys) (get_member (codes "task") document)
@@ -155,18 +172,11 @@ task_of room document = do
   to ← required (spot key.TaskTo 0) (numbers 2 0 50000) (get_member (codes "to") task)
   height ← required (spot key.TaskHeight 0) (number 0 50000) (get_member (codes "height") task)
   points ← required (spot key.TaskPoints 0) (numbers 2 1 1024) (get_member (codes "points") task)
-  above ← demand (nat_lt (slice_index from 0) (slice_index to 0) && nat_lt (slice_index from 1) (slice_index to 1)) (fault.Range (spot key.TaskTo 0))
-  inside ← demand (nat_le (slice_index to 0) room.x && nat_le (slice_index to 1) room.y && nat_le height room.z) (fault.Outside (spot key.Task 0))
-  few ← demand (nat_le (slice_index points 0 * slice_index points 1) 1024) (fault.TooMany (spot key.TaskPoints 0))
-  Ok (record {
-    from_x = slice_index from 0;
-    from_y = slice_index from 1;
-    to_x = slice_index to 0;
-    to_y = slice_index to 1;
-    height = height;
-    nx = slice_index points 0;
-    ny = slice_index points 1;
-  })
+  let grid = task_from from to height points
+  above ← demand (is_rising grid) (fault.Range (spot key.TaskTo 0))
+  inside ← demand (is_task_inside grid room) (fault.Outside (spot key.Task 0))
+  few ← demand (nat_le (grid.nx * grid.ny) 1024) (fault.TooMany (spot key.TaskPoints 0))
+  Ok grid
 
 -- ---- limits
 

@@ -8,7 +8,7 @@ use Rattle.room_layout.specs.declared.fault.RoomFault.{RoomFault}
 use Rattle.room_layout.specs.declared.fault.RoomFault.TheVariants as fault
 use Rattle.room_layout.specs.declared.room.Room.{Room}
 use Rattle.room_layout.specs.declared.room.Shine.TheVariants.{Even}
-use Rattle.room_layout.specs.Layout.{document_of, shell_of, block_of, blocks_of, shine_of, lamp_of, lamps_of, task_of, limits_in, limits_of, version_of, room_of_document, room_of, built_room_of_document, built_room_of}
+use Rattle.room_layout.specs.Layout.{document_of, shell_of, block_of, blocks_of, shine_of, checked_lamp, lamp_of, lamps_of, task_of, limits_in, limits_of, version_of, room_of_document, room_of, built_room_of_document, built_room_of}
 use Rattle.room_layout.specs.Served.{is_unserved}
 
 no_version : room_of (codes "room = 1") ≡ Err fault.Version
@@ -46,5 +46,5 @@ hall = record {
 }
 
 hall_read : built_room_of hall_text ≡ Ok hall
-unfolding is_utf8 chars toml_on_literals built_room_of built_room_of_document is_unserved document_of room_of_document version_of shell_of blocks_of lamps_of lamp_of shine_of task_of limits_of
+unfolding is_utf8 chars toml_on_literals built_room_of built_room_of_document is_unserved document_of room_of_document version_of shell_of blocks_of lamps_of lamp_of shine_of checked_lamp task_of limits_of
 hall_read = refl

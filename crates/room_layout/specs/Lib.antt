@@ -7,3 +7,4 @@ pub mod LayoutTests
 pub mod Accepted
 pub mod FaultText
 pub mod FaultTextTests
+pub mod Laws

@@ -1,8 +1,8 @@
 -- Which keys of the layout aren't served yet: a document that has one of them is accepted and then refused as NotBuilt.
-use Rattle.std.specs.Prelude.{ℕ, Bool, true, false, ◌||◌, List, [], ◌∷◌, Option, Some, None, is_some, codes}
+use Rattle.std.specs.Prelude.{ℕ, Bool, false, ◌||◌, List, [], ◌∷◌, is_some, codes}
 use Rattle.std.specs.List.{list_any}
-use Rattle.toml.specs.Data.{Data, Items, Members, get_member}
-use Rattle.toml.specs.Data.Data.{array, table}
+use Rattle.toml.specs.Data.{Data, Members, get_member, as_array, as_table}
+use Rattle.std.specs.Option.{option_map_or}
 use Rattle.room_layout.specs.Checks.{items_list}
 
 -- ---- the keys, one to a line
@@ -37,21 +37,14 @@ has_any keys members = list_any (λ k. is_some (get_member k members)) keys
 
 -- one of the keys is in the table
 abbrev pub has_any_in : List (List ℕ) → Data → Bool
-has_any_in keys (table members) = has_any keys members
-has_any_in keys _ = false
+has_any_in keys d = option_map_or (has_any keys) (as_table d) false
 
 -- one of the keys is in an element of the array
 abbrev pub has_any_in_each : List (List ℕ) → Data → Bool
-has_any_in_each keys (array items) = list_any (has_any_in keys) (items_list items)
-has_any_in_each keys _ = false
-
--- the test of a value that may not be given
-abbrev pub if_given : (Data → Bool) → Option Data → Bool
-if_given test None = false
-if_given test (Some d) = test d
+has_any_in_each keys d = option_map_or (λ items. list_any (has_any_in keys) (items_list items)) (as_array d) false
 
 unfoldable pub is_unserved : Members → Bool
 is_unserved document =
     has_any unserved_of_document document
-    || if_given (has_any_in unserved_of_room) (get_member (codes "room") document)
-    || if_given (has_any_in_each unserved_of_lamp) (get_member (codes "lamp") document)
+    || option_map_or (has_any_in unserved_of_room) (get_member (codes "room") document) false
+    || option_map_or (has_any_in_each unserved_of_lamp) (get_member (codes "lamp") document) false

@@ -1,8 +1,10 @@
 //! What is refused in a layout, and where.
 ghost use Rattle.std.specs.Prelude.{◌≡◌, IfOk, Some, string_bytes};
-ghost use Rattle.room_layout.specs.FaultText.{key_text, spot_text, fault_text};
+ghost use Rattle.room_layout.specs.Checks.{spot};
+ghost use Rattle.room_layout.specs.declared.fault.RoomFault.TheVariants.{Memory};
+ghost use Rattle.room_layout.specs.FaultText.{key_text, is_indexed, spot_text, fault_text};
 
-use std::alloc::{AllocError, Global};
+use std::alloc::{AllocError, AllocFailed, Global};
 use std::fmt;
 
 /// A key of the layout, in the layout's order.
@@ -101,5 +103,45 @@ impl Key {
             Key::LimitsAverageMillilux => "limits.average_millilux",
             Key::LimitsUniformityPermille => "limits.uniformity_permille",
         }
+    }
+}
+
+impl Spot {
+    /// The spot of a key outside boxes and lamps.
+    pub fn of(key: Key) -> Spot
+        ensures { result ≡ spot key 0 }
+    {
+        Spot { key, index: 0 }
+    }
+
+    /// The spot of a key of the box or lamp at this index.
+    pub fn at(key: Key, index: u32) -> Spot
+        ensures { result ≡ spot key index }
+    {
+        Spot { key, index }
+    }
+}
+
+impl fmt::Display for Key {
+    ghost output = { λ k. Some (key_text k) };
+
+    fn fmt<W: fmt::Write>(&self, f: &mut fmt::Formatter<W>) -> fmt::Result {
+        write!(f, "{}", self.text())
+    }
+}
+
+impl From<AllocError> for RoomFault {
+    ghost from_gives = { λ _ e. e ≡ Memory };
+
+    fn from(_e: AllocError) -> RoomFault {
+        RoomFault::Memory
+    }
+}
+
+impl<T: Drop> From<AllocFailed<T>> for RoomFault {
+    ghost from_gives = { λ _ e. e ≡ Memory };
+
+    fn from(_e: AllocFailed<T>) -> RoomFault {
+        RoomFault::Memory
     }
 }

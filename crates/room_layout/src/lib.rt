@@ -2,13 +2,21 @@
 //! `read_room` gives the room that a text describes, or the first fault in the order of checking.
 #![tactic(auto)]
 
+mod blocks;
+mod check;
 mod fault;
 mod geometry;
+mod lamps;
+pub mod laws;
 mod parts;
+mod read;
 mod room;
+mod served;
+mod sizes;
 
 pub use fault::{Key, RoomFault, Spot};
 pub use geometry::{Face, Point, Size};
+pub use read::read_room;
 pub use room::{
     Block, Blocks, FileUse, FileUses, Lamp, Lamps, Limits, Name, Reflects, Room, Shine, TaskGrid,
 };
