@@ -1,0 +1,4 @@
+pub mod Enclosed
+pub mod Series
+pub mod Slant
+pub mod Turns
