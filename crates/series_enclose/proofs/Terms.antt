@@ -112,7 +112,7 @@ power_ratio u v zero h p = absurd (omega arith)
 power_ratio u v (suc m) h p = rw (pow-suc u m, pow-suc v m) (omega (arith, mul-le-mul_left (u * v) (pow-le-pow_left h m)))
 
 -- two fractions over one denominator
-over_one : (u D : ℕ) → 0 < D → Fraction
+unfoldable pub over_one : (u D : ℕ) → 0 < D → Fraction
 over_one u D p = record { num = u; den = D; positive = p }
 
 pair_cross : (a b u v P D F G Z : ℕ) → a * ((D * D) * G) + (b * (v * v)) * F ≤ b * ((D * D) * G) + (a * (u * u)) * F
@@ -129,25 +129,25 @@ pair_over_one u v D m k F G p q r h g e l f = record {
             (pair_numbers (u ^ m) (v ^ m) u v D F G h g (pow-le-pow_left h m) (power_ratio u v m h l) f));
   }
 
-over_left : (x y : Fraction) → Fraction
+unfoldable pub over_left : (x y : Fraction) → Fraction
 over_left x y = over_one (x.num * y.den) (x.den * y.den) (mul-pos x.positive y.positive)
 
-over_right : (x y : Fraction) → Fraction
+unfoldable pub over_right : (x y : Fraction) → Fraction
 over_right x y = over_one (y.num * x.den) (x.den * y.den) (mul-pos x.positive y.positive)
 
-to_left : (x y : Fraction) → x ≤ᶠ over_left x y
+pub to_left : (x y : Fraction) → x ≤ᶠ over_left x y
 unfolding over_one over_left
 to_left x y = record { cross = omega arith }
 
-from_left : (x y : Fraction) → over_left x y ≤ᶠ x
+pub from_left : (x y : Fraction) → over_left x y ≤ᶠ x
 unfolding over_one over_left
 from_left x y = record { cross = omega arith }
 
-to_right : (x y : Fraction) → y ≤ᶠ over_right x y
+pub to_right : (x y : Fraction) → y ≤ᶠ over_right x y
 unfolding over_one over_right
 to_right x y = record { cross = omega arith }
 
-from_right : (x y : Fraction) → over_right x y ≤ᶠ y
+pub from_right : (x y : Fraction) → over_right x y ≤ᶠ y
 unfolding over_one over_right
 from_right x y = record { cross = omega arith }
 

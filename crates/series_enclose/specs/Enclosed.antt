@@ -17,3 +17,8 @@ pub record IsCosine (angle : ℕ) (span : Ends) : Type 0 where
   pub meets : (n : ℕ) → Meets (of_span span) (cosine n (millionths angle))
   pub narrow : span.hi ≤ℤ (span.lo +ℤ pos 16)
   pub natural : pos 0 ≤ℤ span.lo
+
+-- row k of the table: the spans of k * 15,625 millionths of a degree
+pub record IsRow (k : ℕ) (sin cos : Ends) : Type 0 where
+  pub sine : IsSine (k * 15625) sin
+  pub cosine : IsCosine (k * 15625) cos

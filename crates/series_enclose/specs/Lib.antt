@@ -1,4 +1,5 @@
 pub mod Enclosed
 pub mod Series
 pub mod Slant
+pub mod Table
 pub mod Turns

@@ -5,11 +5,15 @@ ghost use Rattle.series_enclose.specs.Series.{pi};
 
 use fx_base::{Span, tick_of};
 
-/// Pi to one tick: the sum of the first terms of Machin's formula `16 arctan(1/5) - 4 arctan(1/239)`.
+/// The ticks next below and next above pi.
+pub const PI_LOW: u64 = 215_888_603_272;
+pub const PI_HIGH: u64 = 215_888_603_273;
+
+/// Pi, to one tick. It meets, at every depth, what the first terms of Machin's formula `16 arctan(1/5) - 4 arctan(1/239)` enclose.
 pub fn pi_span() -> Span
     ensures meets { (n : ℕ) → Meets (of_span result) (pi n) }
     ensures narrow { result.hi ≤ℤ (result.lo +ℤ pos 1) }
     ensures natural { pos 0 ≤ℤ result.lo }
 {
-    Span::new(tick_of(215_888_603_272), tick_of(215_888_603_273))
+    Span::new(tick_of(PI_LOW as u128), tick_of(PI_HIGH as u128))
 }
