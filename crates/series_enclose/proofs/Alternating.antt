@@ -1,7 +1,7 @@
 -- Sums of terms that fall, added and taken away in turn.
-use Rattle.std.proofs.Common.{ℕ, zero, suc, ◌+◌, ◌*◌, ◌≤◌, ◌≡◌, arith, ap, refl}
+use Rattle.std.proofs.Common.{ℕ, zero, suc, ◌+◌, ◌*◌, ◌≡◌, arith, refl}
 use Rattle.fx_base.specs.Fraction.{Fraction, ◌≤ᶠ◌, ◌+ᶠ◌, ◌-ᶠ◌}
-use Rattle.fx_base.proofs.Order.{le_refl_f, le_trans_f, add_le_f, add_comm_f, add_right_f, add_left_f, add_swap_f, add_cancel_f, le_add_f, le_add_left_f, sub_le_f, sub_back_f, le_sub_f, le_sub_add_f, sub_add_f, sub_le_self_f, sub_mono_f}
+use Rattle.fx_base.proofs.Order.{le_refl_f, le_trans_f, add_le_f, add_comm_f, add_right_f, add_left_f, add_swap_f, add_cancel_f, le_add_left_f, sub_le_f, le_sub_f, le_sub_add_f, sub_add_f, sub_le_self_f, sub_mono_f}
 use Rattle.series_enclose.specs.Series.{upper_sum, lower_sum}
 
 pub record IsFalling (t : ℕ → Fraction) : Type 0 where
@@ -24,7 +24,7 @@ pub lower_rises : (t : ℕ → Fraction) → IsFalling t → (n : ℕ) → lower
 unfolding upper_sum lower_sum
 lower_rises t h n =
     le_sub_f ((upper_sum t n -ᶠ t (2 * n + 1)) +ᶠ t (2 * n + 2)) (t (2 * suc n + 1))
-        (add_le_f (le_refl_f (upper_sum t n -ᶠ t (2 * n + 1))) (h.falls (2 * n + 2) (2 * suc n + 1) (omega arith)))
+    (add_le_f (le_refl_f (upper_sum t n -ᶠ t (2 * n + 1))) (h.falls (2 * n + 2) (2 * suc n + 1) (omega arith)))
 
 pub lower_le_upper : (t : ℕ → Fraction) (n : ℕ) → lower_sum t n ≤ᶠ upper_sum t n
 unfolding lower_sum
@@ -50,27 +50,27 @@ pub pair_step : (p q a b c d : Fraction) → p ≤ᶠ q → (a +ᶠ d) ≤ᶠ (c
 pair_step p q a b c d g h =
     let left : ((p +ᶠ a) +ᶠ d) ≤ᶠ (q +ᶠ (c +ᶠ b)) = le_trans_f (add_right_f p a d) (add_le_f g h) in
     let right : (q +ᶠ (c +ᶠ b)) ≤ᶠ ((((q +ᶠ c) -ᶠ d) +ᶠ b) +ᶠ d) =
-        le_trans_f (add_left_f q c b) (le_trans_f (add_le_f (le_sub_add_f (q +ᶠ c) d) (le_refl_f b)) (add_swap_f ((q +ᶠ c) -ᶠ d) d b)) in
+    le_trans_f (add_left_f q c b) (le_trans_f (add_le_f (le_sub_add_f (q +ᶠ c) d) (le_refl_f b)) (add_swap_f ((q +ᶠ c) -ᶠ d) d b)) in
     sub_le_f (p +ᶠ a) b (add_cancel_f (p +ᶠ a) (((q +ᶠ c) -ᶠ d) +ᶠ b) d (le_trans_f left right))
 
 pair_first : (a b c d : Fraction) → (a +ᶠ d) ≤ᶠ (c +ᶠ b) → (a -ᶠ b) ≤ᶠ (c -ᶠ d)
 pair_first a b c d h =
     sub_le_f a b (add_cancel_f a ((c -ᶠ d) +ᶠ b) d
-        (le_trans_f h (le_trans_f (add_le_f (le_sub_add_f c d) (le_refl_f b)) (add_swap_f (c -ᶠ d) d b))))
+    (le_trans_f h (le_trans_f (add_le_f (le_sub_add_f c d) (le_refl_f b)) (add_swap_f (c -ᶠ d) d b))))
 
 -- p - a + b is at most q - c + d where nothing is cut on the left
 pub pair_step_down : (p q a b c d : Fraction) → a ≤ᶠ p → p ≤ᶠ q → (c +ᶠ b) ≤ᶠ (a +ᶠ d) → ((p -ᶠ a) +ᶠ b) ≤ᶠ ((q -ᶠ c) +ᶠ d)
 pair_step_down p q a b c d uncut g h =
     let left : ((((p -ᶠ a) +ᶠ b) +ᶠ c) +ᶠ a) ≤ᶠ (p +ᶠ (c +ᶠ b)) =
-        le_trans_f (add_swap_f ((p -ᶠ a) +ᶠ b) c a)
-        (le_trans_f (add_le_f (le_trans_f (add_swap_f (p -ᶠ a) b a) (add_le_f (sub_add_f p a uncut) (le_refl_f b))) (le_refl_f c))
-        (le_trans_f (add_right_f p b c) (add_le_f (le_refl_f p) (add_comm_f b c)))) in
+    le_trans_f (add_swap_f ((p -ᶠ a) +ᶠ b) c a)
+    (le_trans_f (add_le_f (le_trans_f (add_swap_f (p -ᶠ a) b a) (add_le_f (sub_add_f p a uncut) (le_refl_f b))) (le_refl_f c))
+    (le_trans_f (add_right_f p b c) (add_le_f (le_refl_f p) (add_comm_f b c)))) in
     let right : (q +ᶠ (a +ᶠ d)) ≤ᶠ ((((q -ᶠ c) +ᶠ d) +ᶠ c) +ᶠ a) =
-        le_trans_f (add_le_f (le_refl_f q) (add_comm_f a d))
-        (le_trans_f (add_left_f q d a)
-        (add_le_f (le_trans_f (add_le_f (le_sub_add_f q c) (le_refl_f d)) (add_swap_f (q -ᶠ c) c d)) (le_refl_f a))) in
+    le_trans_f (add_le_f (le_refl_f q) (add_comm_f a d))
+    (le_trans_f (add_left_f q d a)
+    (add_le_f (le_trans_f (add_le_f (le_sub_add_f q c) (le_refl_f d)) (add_swap_f (q -ᶠ c) c d)) (le_refl_f a))) in
     add_cancel_f ((p -ᶠ a) +ᶠ b) ((q -ᶠ c) +ᶠ d) c
-        (add_cancel_f (((p -ᶠ a) +ᶠ b) +ᶠ c) (((q -ᶠ c) +ᶠ d) +ᶠ c) a (le_trans_f left (le_trans_f (add_le_f g h) right)))
+    (add_cancel_f (((p -ᶠ a) +ᶠ b) +ᶠ c) (((q -ᶠ c) +ᶠ d) +ᶠ c) a (le_trans_f left (le_trans_f (add_le_f g h) right)))
 
 -- the pairs (0, 1), (2, 3), .. of t are at least those of s, and so are its terms
 pub record IsRisingInPairs (s t : ℕ → Fraction) : Type 0 where
@@ -84,6 +84,7 @@ lower_grows s t h (suc n) = pair_next s t n (2 * n + 2) (2 * suc n + 1) (lower_g
   where
     pair_at : (s t : ℕ → Fraction) → IsRisingInPairs s t → (i k j : ℕ) → i ≡ 2 * k → j ≡ 2 * k + 1 → (s i +ᶠ t j) ≤ᶠ (t i +ᶠ s j)
     pair_at s t h i k j e f = rw e (h.pairs j k f)
+
     pair_next : (s t : ℕ → Fraction) (n i j : ℕ) → lower_sum s n ≤ᶠ lower_sum t n → (s i +ᶠ t j) ≤ᶠ (t i +ᶠ s j)
         → ((lower_sum s n +ᶠ s i) -ᶠ s j) ≤ᶠ ((lower_sum t n +ᶠ t i) -ᶠ t j)
     pair_next s t n i j g h = pair_step (lower_sum s n) (lower_sum t n) (s i) (s j) (t i) (t j) g h
@@ -104,7 +105,7 @@ unfolding upper_sum
 upper_sinks s t f h zero = h.start
 upper_sinks s t f h (suc n) =
     pair_step_down (upper_sum t n) (upper_sum s n) (t (2 * n + 1)) (t (2 * n + 2)) (s (2 * n + 1)) (s (2 * n + 2))
-        (term_le_upper t f n) (upper_sinks s t f h n) (h.pairs n)
+    (term_le_upper t f n) (upper_sinks s t f h n) (h.pairs n)
 
 pub lower_sinks : (s t : ℕ → Fraction) → IsFalling t → IsSinkingInPairs s t → (n : ℕ) → lower_sum t n ≤ᶠ lower_sum s n
 unfolding lower_sum

@@ -1,8 +1,8 @@
 -- From an angle in millionths of a degree to the first terms of its sine and cosine in ticks.
-use Rattle.std.proofs.Common.{ℕ, zero, suc, ◌+◌, ◌-◌, ◌*◌, ◌^◌, ◌<◌, ◌≤◌, ◌≡◌, arith, refl, sym}
-use Rattle.std.proofs.Math.Nat.{mul-le-mul, mul-le-mul_left, pow-suc, pow-zero, one-mul, lt_of_mul-lt-mul_left}
+use Rattle.std.proofs.Common.{ℕ, ◌+◌, ◌*◌, ◌^◌, ◌<◌, ◌≤◌, ◌≡◌, arith, refl}
+use Rattle.std.proofs.Math.Nat.{mul-le-mul, pow-suc, pow-zero, one-mul, lt_of_mul-lt-mul_left}
 use Rattle.fx_base.specs.Fraction.{Fraction, ◌≤ᶠ◌, ◌*ᶠ◌, whole, ratio}
-use Rattle.fx_base.specs.Interval.{Interval, Meets, LiesIn}
+use Rattle.fx_base.specs.Interval.{Meets}
 use Rattle.fx_base.specs.Units.{ticks, millionths}
 use Rattle.fx_base.proofs.Order.{le_refl_f, le_trans_f, mul_le_f}
 use Rattle.fx_base.proofs.Near.{one_depth_meets}
@@ -83,9 +83,9 @@ square_ticks_high a s h = record { cross = omega arith }
 
 square_between : (al ah sl sh : ℕ) (x : Fraction) → IsBetween al ah x → IsProduct 1 al ah al ah sl sh → IsBetween sl sh (x *ᶠ x)
 square_between al ah sl sh x h p = record {
-    low = le_trans_f (square_ticks_low al sl p.low) (mul_le_f h.low h.low);
-    high = le_trans_f (mul_le_f h.high h.high) (square_ticks_high ah sh p.high);
-  }
+  low = le_trans_f (square_ticks_low al sl p.low) (mul_le_f h.low h.low);
+  high = le_trans_f (mul_le_f h.high h.high) (square_ticks_high ah sh p.high);
+}
 
 power_one : (p : ℕ) → p ^ 1 ≡ p
 power_one p = rw (pow-suc p 0, pow-zero) (one-mul p)
@@ -105,9 +105,9 @@ first_sine al ah x h = record { low = le_trans_f h.low (to_first x); high = le_t
 first_cosine : (x : Fraction) → IsBetween 68719476736 68719476736 (series_term 0 x 0)
 unfolding series_term exponential_term power_over ticks factorial
 first_cosine x = record {
-    low = record { cross = rw (pow-zero x.num, pow-zero x.den) (omega arith) };
-    high = record { cross = rw (pow-zero x.num, pow-zero x.den) (omega arith) };
-  }
+  low = record { cross = rw (pow-zero x.num, pow-zero x.den) (omega arith) };
+  high = record { cross = rw (pow-zero x.num, pow-zero x.den) (omega arith) };
+}
 
 pub start_sine : (al ah sl sh cl ch : ℕ) (x : Fraction) → x ≤ᶠ whole 1 → IsBetween al ah x → IsProduct 1 al ah al ah sl sh
     → IsProduct 6 al ah sl sh cl ch → IsStart 1 al ah cl ch sl sh x
@@ -145,8 +145,8 @@ sine_sum_meets angle lo hi h at_low at_high =
     let g = millionths angle in
     let within = within_45 angle h in
     one_depth_meets (λ n. sine n g) (sine_nested g within) (between lo hi) 4 4
-        (le_trans_f at_low.low (lower_rises (sine_term (radians (pi 4) g).lo) (sine_falls (radians (pi 4) g).lo (arc_low_one 4 g within)) 3))
-        (le_trans_f (upper_falls (sine_term (radians (pi 4) g).hi) (sine_falls (radians (pi 4) g).hi (arc_high_one 4 g within)) 3) at_high.high)
+    (le_trans_f at_low.low (lower_rises (sine_term (radians (pi 4) g).lo) (sine_falls (radians (pi 4) g).lo (arc_low_one 4 g within)) 3))
+    (le_trans_f (upper_falls (sine_term (radians (pi 4) g).hi) (sine_falls (radians (pi 4) g).hi (arc_high_one 4 g within)) 3) at_high.high)
 
 pub sine_meets : (angle al ah sl sh cl ch lo hi : ℕ) → angle ≤ 45000000 → IsArc angle al ah → IsProduct 1 al ah al ah sl sh → IsProduct 6 al ah sl sh cl ch
     → ((x : Fraction) → IsStart 1 al ah cl ch sl sh x → IsSum 1 lo hi x) → (n : ℕ) → Meets (between lo hi) (sine n (millionths angle))
@@ -155,8 +155,8 @@ sine_meets angle al ah sl sh cl ch lo hi h arc p q sum =
     let within = within_45 angle h in
     let ends = arc_ends angle al ah arc in
     sine_sum_meets angle lo hi h
-        (sum (radians (pi 4) g).lo (start_sine al ah sl sh cl ch (radians (pi 4) g).lo (arc_low_one 4 g within) (ends.0) p q))
-        (sum (radians (pi 4) g).hi (start_sine al ah sl sh cl ch (radians (pi 4) g).hi (arc_high_one 4 g within) (ends.1) p q))
+    (sum (radians (pi 4) g).lo (start_sine al ah sl sh cl ch (radians (pi 4) g).lo (arc_low_one 4 g within) (ends.0) p q))
+    (sum (radians (pi 4) g).hi (start_sine al ah sl sh cl ch (radians (pi 4) g).hi (arc_high_one 4 g within) (ends.1) p q))
 
 pub sine_narrow : (angle al ah sl sh cl ch lo hi : ℕ) → angle ≤ 45000000 → IsArc angle al ah → IsProduct 1 al ah al ah sl sh → IsProduct 6 al ah sl sh cl ch
     → ((x : Fraction) → IsStart 1 al ah cl ch sl sh x → hi ≤ lo + 16) → hi ≤ lo + 16
@@ -183,8 +183,8 @@ cosine_sum_meets angle lo hi h at_low at_high =
     let g = millionths angle in
     let within = within_45 angle h in
     one_depth_meets (λ n. cosine n g) (cosine_nested g within) (between lo hi) 4 4
-        (le_trans_f ((cosine_sum lo hi (radians (pi 4) g).hi at_high).0) (lower_rises (cosine_term (radians (pi 4) g).hi) (cosine_falls (radians (pi 4) g).hi (arc_high_one 4 g within)) 3))
-        (le_trans_f (upper_falls (cosine_term (radians (pi 4) g).lo) (cosine_falls (radians (pi 4) g).lo (arc_low_one 4 g within)) 3) ((cosine_sum lo hi (radians (pi 4) g).lo at_low).1))
+    (le_trans_f ((cosine_sum lo hi (radians (pi 4) g).hi at_high).0) (lower_rises (cosine_term (radians (pi 4) g).hi) (cosine_falls (radians (pi 4) g).hi (arc_high_one 4 g within)) 3))
+    (le_trans_f (upper_falls (cosine_term (radians (pi 4) g).lo) (cosine_falls (radians (pi 4) g).lo (arc_low_one 4 g within)) 3) ((cosine_sum lo hi (radians (pi 4) g).lo at_low).1))
 
 pub cosine_meets : (angle al ah sl sh cl ch lo hi : ℕ) → angle ≤ 45000000 → IsArc angle al ah → IsProduct 1 al ah al ah sl sh
     → IsProduct 2 68719476736 68719476736 sl sh cl ch
@@ -194,8 +194,8 @@ cosine_meets angle al ah sl sh cl ch lo hi h arc p q sum =
     let within = within_45 angle h in
     let ends = arc_ends angle al ah arc in
     cosine_sum_meets angle lo hi h
-        (sum (radians (pi 4) g).lo (start_cosine al ah sl sh cl ch (radians (pi 4) g).lo (arc_low_one 4 g within) (ends.0) p q))
-        (sum (radians (pi 4) g).hi (start_cosine al ah sl sh cl ch (radians (pi 4) g).hi (arc_high_one 4 g within) (ends.1) p q))
+    (sum (radians (pi 4) g).lo (start_cosine al ah sl sh cl ch (radians (pi 4) g).lo (arc_low_one 4 g within) (ends.0) p q))
+    (sum (radians (pi 4) g).hi (start_cosine al ah sl sh cl ch (radians (pi 4) g).hi (arc_high_one 4 g within) (ends.1) p q))
 
 pub cosine_narrow : (angle al ah sl sh cl ch lo hi : ℕ) → angle ≤ 45000000 → IsArc angle al ah → IsProduct 1 al ah al ah sl sh
     → IsProduct 2 68719476736 68719476736 sl sh cl ch

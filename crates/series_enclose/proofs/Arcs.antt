@@ -1,11 +1,11 @@
 -- The enclosures of sine and cosine nest.
-use Rattle.std.proofs.Common.{ℕ, zero, suc, ◌+◌, ◌*◌, ◌≤◌, ◌≡◌, arith, refl}
-use Rattle.fx_base.specs.Fraction.{Fraction, ◌≤ᶠ◌, ◌+ᶠ◌, ◌-ᶠ◌, ◌*ᶠ◌, whole, ratio}
+use Rattle.std.proofs.Common.{ℕ, suc, arith}
+use Rattle.fx_base.specs.Fraction.{Fraction, ◌≤ᶠ◌, ◌*ᶠ◌, whole, ratio}
 use Rattle.fx_base.specs.Interval.{Interval, InOrder, LiesIn}
 use Rattle.fx_base.specs.Nesting.{IsNested}
 use Rattle.fx_base.proofs.Order.{le_refl_f, le_trans_f, mul_le_f}
 use Rattle.series_enclose.specs.Series.{upper_sum, lower_sum, sine_term, cosine_term, pi, radians, sine_of, cosine_of, sine, cosine}
-use Rattle.series_enclose.proofs.Alternating.{IsFalling, upper_falls, lower_rises, lower_le_upper, lower_grows, upper_grows, lower_sinks, upper_sinks}
+use Rattle.series_enclose.proofs.Alternating.{upper_falls, lower_rises, lower_le_upper, lower_grows, upper_grows, lower_sinks, upper_sinks}
 use Rattle.series_enclose.proofs.Terms.{sine_falls, cosine_falls, sine_pairs, cosine_pairs}
 use Rattle.series_enclose.proofs.PiLaws.{pi_nested, pi_at_most_four}
 
@@ -13,9 +13,9 @@ use Rattle.series_enclose.proofs.PiLaws.{pi_nested, pi_at_most_four}
 pub radians_within : (p q : Interval) (g : Fraction) → LiesIn p q → LiesIn (radians p g) (radians q g)
 unfolding radians
 radians_within p q g h = record {
-    lower = mul_le_f (mul_le_f (le_refl_f g) h.lower) (le_refl_f (ratio 1 180));
-    upper = mul_le_f (mul_le_f (le_refl_f g) h.upper) (le_refl_f (ratio 1 180));
-  }
+  lower = mul_le_f (mul_le_f (le_refl_f g) h.lower) (le_refl_f (ratio 1 180));
+  upper = mul_le_f (mul_le_f (le_refl_f g) h.upper) (le_refl_f (ratio 1 180));
+}
 
 pub radians_in_order : (p : Interval) (g : Fraction) → InOrder p → InOrder (radians p g)
 unfolding radians
@@ -69,9 +69,9 @@ cosine_upper_sinks x y h one = upper_sinks (cosine_term x) (cosine_term y) (cosi
 sine_within : (x y : Interval) (n : ℕ) → LiesIn y x → y.lo ≤ᶠ whole 1 → x.hi ≤ᶠ whole 1 → y.hi ≤ᶠ whole 1 → LiesIn (sine_of y (suc n)) (sine_of x n)
 unfolding sine_of
 sine_within x y n h low high top = record {
-    lower = le_trans_f (sine_lower_grows x.lo y.lo h.lower low n) (lower_rises (sine_term y.lo) (sine_falls y.lo low) n);
-    upper = le_trans_f (upper_falls (sine_term y.hi) (sine_falls y.hi top) n) (sine_upper_grows y.hi x.hi h.upper high n);
-  }
+  lower = le_trans_f (sine_lower_grows x.lo y.lo h.lower low n) (lower_rises (sine_term y.lo) (sine_falls y.lo low) n);
+  upper = le_trans_f (upper_falls (sine_term y.hi) (sine_falls y.hi top) n) (sine_upper_grows y.hi x.hi h.upper high n);
+}
 
 sine_in_order : (x : Interval) (n : ℕ) → InOrder x → x.hi ≤ᶠ whole 1 → InOrder (sine_of x n)
 unfolding sine_of
@@ -81,16 +81,16 @@ sine_in_order x n h one = le_trans_f (lower_le_upper (sine_term x.lo) n) (sine_u
 pub sine_nested : (g : Fraction) → g ≤ᶠ whole 45 → IsNested (λ n. sine n g)
 unfolding sine
 sine_nested g h = record {
-    nests = λ n. sine_within (radians (pi n) g) (radians (pi (suc n)) g) n (arc_nests n g) (arc_low_one (suc n) g h) (arc_high_one n g h) (arc_high_one (suc n) g h);
-    order = λ n. sine_in_order (radians (pi n) g) n (arc_order n g) (arc_high_one n g h);
-  }
+  nests = λ n. sine_within (radians (pi n) g) (radians (pi (suc n)) g) n (arc_nests n g) (arc_low_one (suc n) g h) (arc_high_one n g h) (arc_high_one (suc n) g h);
+  order = λ n. sine_in_order (radians (pi n) g) n (arc_order n g) (arc_high_one n g h);
+}
 
 cosine_within : (x y : Interval) (n : ℕ) → LiesIn y x → y.lo ≤ᶠ whole 1 → x.hi ≤ᶠ whole 1 → y.hi ≤ᶠ whole 1 → LiesIn (cosine_of y (suc n)) (cosine_of x n)
 unfolding cosine_of
 cosine_within x y n h low high top = record {
-    lower = le_trans_f (cosine_lower_sinks y.hi x.hi h.upper high n) (lower_rises (cosine_term y.hi) (cosine_falls y.hi top) n);
-    upper = le_trans_f (upper_falls (cosine_term y.lo) (cosine_falls y.lo low) n) (cosine_upper_sinks x.lo y.lo h.lower low n);
-  }
+  lower = le_trans_f (cosine_lower_sinks y.hi x.hi h.upper high n) (lower_rises (cosine_term y.hi) (cosine_falls y.hi top) n);
+  upper = le_trans_f (upper_falls (cosine_term y.lo) (cosine_falls y.lo low) n) (cosine_upper_sinks x.lo y.lo h.lower low n);
+}
 
 cosine_in_order : (x : Interval) (n : ℕ) → InOrder x → x.hi ≤ᶠ whole 1 → InOrder (cosine_of x n)
 unfolding cosine_of
@@ -100,6 +100,6 @@ cosine_in_order x n h one = le_trans_f (lower_le_upper (cosine_term x.hi) n) (co
 pub cosine_nested : (g : Fraction) → g ≤ᶠ whole 45 → IsNested (λ n. cosine n g)
 unfolding cosine
 cosine_nested g h = record {
-    nests = λ n. cosine_within (radians (pi n) g) (radians (pi (suc n)) g) n (arc_nests n g) (arc_low_one (suc n) g h) (arc_high_one n g h) (arc_high_one (suc n) g h);
-    order = λ n. cosine_in_order (radians (pi n) g) n (arc_order n g) (arc_high_one n g h);
-  }
+  nests = λ n. cosine_within (radians (pi n) g) (radians (pi (suc n)) g) n (arc_nests n g) (arc_low_one (suc n) g h) (arc_high_one n g h) (arc_high_one (suc n) g h);
+  order = λ n. cosine_in_order (radians (pi n) g) n (arc_order n g) (arc_high_one n g h);
+}

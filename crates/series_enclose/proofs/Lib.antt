@@ -5,4 +5,5 @@ pub mod PiLaws
 pub mod Rows
 pub mod TermSums
 pub mod Terms
+pub mod Uncut
 pub mod Widths

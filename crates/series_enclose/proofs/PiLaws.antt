@@ -1,7 +1,7 @@
 -- Pi.
-use Rattle.std.proofs.Common.{ℕ, zero, suc, ◌+◌, ◌*◌, ◌≤◌, ◌≡◌, arith, refl, lit≤}
-use Rattle.fx_base.specs.Fraction.{Fraction, ◌≤ᶠ◌, ◌+ᶠ◌, ◌-ᶠ◌, ◌*ᶠ◌, whole, ratio}
-use Rattle.fx_base.specs.Interval.{Interval, Meets, LiesIn}
+use Rattle.std.proofs.Common.{ℕ, ◌≤◌, arith, lit≤}
+use Rattle.fx_base.specs.Fraction.{◌≤ᶠ◌, ◌+ᶠ◌, ◌-ᶠ◌, ◌*ᶠ◌, whole, ratio}
+use Rattle.fx_base.specs.Interval.{Meets}
 use Rattle.fx_base.specs.Nesting.{IsNested}
 use Rattle.fx_base.specs.Units.{ticks}
 use Rattle.fx_base.proofs.Order.{le_refl_f, le_trans_f, mul_le_f, sub_mono_f}
@@ -22,15 +22,15 @@ of_239_falls = arctan_falls one_of_239 (record { cross = lit≤ tt })
 pub pi_nested : IsNested pi
 unfolding pi
 pi_nested = record {
-    nests = λ n. record {
-      lower = sub_mono_f (mul_le_f (le_refl_f (whole 16)) (lower_rises (arctan_term one_fifth) fifth_falls n))
-          (mul_le_f (le_refl_f (whole 4)) (upper_falls (arctan_term one_of_239) of_239_falls n));
-      upper = sub_mono_f (mul_le_f (le_refl_f (whole 16)) (upper_falls (arctan_term one_fifth) fifth_falls n))
-          (mul_le_f (le_refl_f (whole 4)) (lower_rises (arctan_term one_of_239) of_239_falls n));
-    };
-    order = λ n. sub_mono_f (mul_le_f (le_refl_f (whole 16)) (lower_le_upper (arctan_term one_fifth) n))
-        (mul_le_f (le_refl_f (whole 4)) (lower_le_upper (arctan_term one_of_239) n));
-  }
+  nests = λ n. record {
+    lower = sub_mono_f (mul_le_f (le_refl_f (whole 16)) (lower_rises (arctan_term one_fifth) fifth_falls n))
+        (mul_le_f (le_refl_f (whole 4)) (upper_falls (arctan_term one_of_239) of_239_falls n));
+    upper = sub_mono_f (mul_le_f (le_refl_f (whole 16)) (upper_falls (arctan_term one_fifth) fifth_falls n))
+        (mul_le_f (le_refl_f (whole 4)) (lower_rises (arctan_term one_of_239) of_239_falls n));
+  };
+  order = λ n. sub_mono_f (mul_le_f (le_refl_f (whole 16)) (lower_le_upper (arctan_term one_fifth) n))
+      (mul_le_f (le_refl_f (whole 4)) (lower_le_upper (arctan_term one_of_239) n));
+}
 
 -- what Machin's formula takes away is at most what stands
 machin_start : (whole 4 *ᶠ upper_sum (arctan_term one_of_239) 0) ≤ᶠ (whole 16 *ᶠ lower_sum (arctan_term one_fifth) 0)

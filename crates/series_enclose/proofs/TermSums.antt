@@ -1,10 +1,10 @@
 -- One turn of the sum of a series in ticks, and what three turns give.
-use Rattle.std.proofs.Common.{ℕ, zero, suc, ◌+◌, ◌-◌, ◌*◌, ◌^◌, ◌<◌, ◌≤◌, ◌≡◌, arith, refl, ap, sym, subst, lit<}
+use Rattle.std.proofs.Common.{ℕ, zero, suc, ◌+◌, ◌-◌, ◌*◌, ◌^◌, ◌<◌, ◌≤◌, ◌≡◌, arith, refl, subst, lit<}
 use Rattle.std.proofs.Math.Nat.{mul-le-mul, mul-le-mul_left, mul-lt-mul_of_pos_left, le_of_lt, mul-pos, pow-le-pow_left, one-le-pow, zero-lt-suc, le_of_mul-le-mul_left, lt_of_mul-lt-mul_left}
-use Rattle.fx_base.specs.Fraction.{Fraction, ◌≤ᶠ◌, ◌+ᶠ◌, ◌-ᶠ◌, ◌*ᶠ◌, whole}
+use Rattle.fx_base.specs.Fraction.{Fraction, ◌≤ᶠ◌, ◌*ᶠ◌, whole}
 use Rattle.fx_base.specs.Units.{ticks}
-use Rattle.fx_base.proofs.Order.{le_refl_f, le_trans_f, add_le_f, sub_mono_f, mul_le_f}
-use Rattle.fx_base.proofs.Sums.{ticks_le, ticks_split, ticks_join, ticks_sub_split, ticks_sub_join, ticks_below_back, ticks_above_back}
+use Rattle.fx_base.proofs.Order.{le_trans_f, add_le_f, sub_mono_f}
+use Rattle.fx_base.proofs.Sums.{ticks_split, ticks_join, ticks_sub_split, ticks_sub_join}
 use Rattle.series_enclose.specs.Series.{upper_sum, lower_sum, power_over, factorial, exponential_term}
 use Rattle.series_enclose.specs.Turns.{IsProduct, series_term, IsBetween, IsStart, IsSum}
 use Rattle.series_enclose.proofs.Terms.{pow_two_more, factorial_two, at_most_one}
@@ -35,25 +35,25 @@ pub next_low : (x : Fraction) (m k d t s r : ℕ) → k ≡ m + 2 → d ≡ (m +
     → ticks t ≤ᶠ exponential_term x m → ticks s ≤ᶠ (x *ᶠ x) → r * (68719476736 * d) ≤ t * s → ticks r ≤ᶠ exponential_term x k
 unfolding ticks exponential_term power_over ◌*ᶠ◌
 next_low x m k d t s r e f g h i = record {
-    cross = rw (pow_two_more x.num m k e, pow_two_more x.den m k e, factorial_next m k d e f)
-        (core_low 68719476736 t s r (x.num ^ m) (x.den ^ m) x.num x.den (factorial m) d (zero-lt-suc 68719476735) g.cross h.cross i);
-  }
+  cross = rw (pow_two_more x.num m k e, pow_two_more x.den m k e, factorial_next m k d e f)
+      (core_low 68719476736 t s r (x.num ^ m) (x.den ^ m) x.num x.den (factorial m) d (zero-lt-suc 68719476735) g.cross h.cross i);
+}
 
 pub next_high : (x : Fraction) (m k d t s r : ℕ) → k ≡ m + 2 → d ≡ (m + 1) * (m + 2)
     → exponential_term x m ≤ᶠ ticks t → (x *ᶠ x) ≤ᶠ ticks s → t * s ≤ r * (68719476736 * d) → exponential_term x k ≤ᶠ ticks r
 unfolding ticks exponential_term power_over ◌*ᶠ◌
 next_high x m k d t s r e f g h i = record {
-    cross = rw (pow_two_more x.num m k e, pow_two_more x.den m k e, factorial_next m k d e f)
-        (core_high 68719476736 t s r (x.num ^ m) (x.den ^ m) x.num x.den (factorial m) d (zero-lt-suc 68719476735) g.cross h.cross i);
-  }
+  cross = rw (pow_two_more x.num m k e, pow_two_more x.den m k e, factorial_next m k d e f)
+      (core_high 68719476736 t s r (x.num ^ m) (x.den ^ m) x.num x.den (factorial m) d (zero-lt-suc 68719476735) g.cross h.cross i);
+}
 
 pub next_between : (o k j d tl th sl sh rl rh : ℕ) (x : Fraction) → j ≡ k + 1 → d ≡ (2 * k + o + 1) * (2 * k + o + 2)
     → IsProduct d tl th sl sh rl rh → IsBetween sl sh (x *ᶠ x) → IsBetween tl th (series_term o x k) → IsBetween rl rh (series_term o x j)
 unfolding series_term
 next_between o k j d tl th sl sh rl rh x e f p s t = record {
-    low = next_low x (2 * k + o) (2 * j + o) d tl sl rl (omega arith) f t.low s.low p.low;
-    high = next_high x (2 * k + o) (2 * j + o) d th sh rh (omega arith) f t.high s.high p.high;
-  }
+  low = next_low x (2 * k + o) (2 * j + o) d tl sl rl (omega arith) f t.low s.low p.low;
+  high = next_high x (2 * k + o) (2 * j + o) d th sh rh (omega arith) f t.high s.high p.high;
+}
 
 -- ---- widths and sizes of a rounded product
 
@@ -63,7 +63,7 @@ order_core W rl rh p q g h k pos = le_of_mul-le-mul_left {k = W} (omega arith) p
 product_order : (d tl th sl sh rl rh : ℕ) → 0 < d → IsProduct d tl th sl sh rl rh → tl ≤ th → sl ≤ sh → rl ≤ rh
 product_order d tl th sl sh rl rh p h g k =
     order_core (68719476736 * d) rl rh (tl * sl) (th * sh) h.low (mul-le-mul {n₁ = tl} {m₁ = sl} {n₂ = th} {m₂ = sh} g k) h.high
-        (mul-pos {m = 68719476736} {n = d} (zero-lt-suc 68719476735) p)
+    (mul-pos {m = 68719476736} {n = d} (zero-lt-suc 68719476735) p)
 
 -- th sh is at most e W above tl sl
 width_core : (W rl rh p q e : ℕ) → p < (rl + 1) * W → rh * W < q + W → q ≤ p + e * W → rh ≤ rl + (e + 1)
@@ -108,14 +108,14 @@ pub sum_start : (o fl fh cl ch sl sh : ℕ) → fl ≤ fh → cl ≤ ch → fh �
     → IsSumSoFar o 0 fl fh cl ch sl sh cl ch fl fh
 unfolding upper_sum
 sum_start o fl fh cl ch sl sh a b c d e = record {
-    encloses = λ x s. record { term = s.second; sum = s.first };
-    order = b;
-    sum_order = a;
-    narrow = omega arith;
-    below = d;
-    both = omega arith;
-    sum_below = omega arith;
-  }
+  encloses = λ x s. record { term = s.second; sum = s.first };
+  order = b;
+  sum_order = a;
+  narrow = omega arith;
+  below = d;
+  both = omega arith;
+  sum_below = omega arith;
+}
 
 divisor_big : (k o : ℕ) → 1 ≤ k → 12 ≤ (2 * k + o + 1) * (2 * k + o + 2)
 divisor_big k o h =
@@ -127,9 +127,9 @@ sum_turn_between : (t : ℕ → Fraction) (n tl th nl nh ul uh : ℕ) → IsBetw
     → IsBetween ul uh (upper_sum t n) → IsBetween ((ul - th) + nl) ((uh - tl) + nh) (upper_sum t (suc n))
 unfolding upper_sum
 sum_turn_between t n tl th nl nh ul uh a b c = record {
-    low = le_trans_f (ticks_split (ul - th) nl) (add_le_f (le_trans_f (ticks_sub_split ul th) (sub_mono_f c.low a.high)) b.low);
-    high = le_trans_f (add_le_f (le_trans_f (sub_mono_f c.high a.low) (ticks_sub_join uh tl)) b.high) (ticks_join (uh - tl) nh);
-  }
+  low = le_trans_f (ticks_split (ul - th) nl) (add_le_f (le_trans_f (ticks_sub_split ul th) (sub_mono_f c.low a.high)) b.low);
+  high = le_trans_f (add_le_f (le_trans_f (sub_mono_f c.high a.low) (ticks_sub_join uh tl)) b.high) (ticks_join (uh - tl) nh);
+}
 
 pub sum_turn : (o n m d e fl fh cl ch sl sh tl th ul uh nl nh rl rh : ℕ) → m ≡ n + 1
     → d ≡ (2 * (2 * n + 1) + o + 1) * (2 * (2 * n + 1) + o + 2) → e ≡ (2 * (2 * n + 2) + o + 1) * (2 * (2 * n + 2) + o + 2)
@@ -150,11 +150,11 @@ sum_turn o n m d e fl fh cl ch sl sh tl th ul uh nl nh rl rh i f g so sb sn h p 
     let m_is : suc n ≡ m = omega arith in
     subst P m_is (record {
       encloses = λ x s. let at = h.encloses x s in
-        let next = next_between o (2 * n + 1) (2 * n + 2) d tl th sl sh nl nh x (omega arith) f p s.square at.term in
-        record {
-          term = next_between o (2 * n + 2) (2 * suc n + 1) e nl nh sl sh rl rh x (omega arith) g q s.square next;
-          sum = sum_turn_between (series_term o x) n tl th nl nh ul uh at.term next at.sum;
-        };
+          let next = next_between o (2 * n + 1) (2 * n + 2) d tl th sl sh nl nh x (omega arith) f p s.square at.term in
+          record {
+            term = next_between o (2 * n + 2) (2 * suc n + 1) e nl nh sl sh rl rh x (omega arith) g q s.square next;
+            sum = sum_turn_between (series_term o x) n tl th nl nh ul uh at.term next at.sum;
+          };
       order = r_order;
       sum_order = omega arith;
       narrow = omega arith;
@@ -181,15 +181,15 @@ last_term : (o t : ℕ) (x : Fraction) → o ≤ 1 → x ≤ᶠ whole 1 → tick
 unfolding series_term exponential_term power_over ticks
 last_term o t x h one le =
     no_tick t (x.num ^ (2 * 7 + o)) (x.den ^ (2 * 7 + o)) (factorial (2 * 7 + o)) (one-le-pow (2 * 7 + o) x.den x.positive)
-        (pow-le-pow_left (at_most_one one) (2 * 7 + o)) (tiny o h) le.cross
+    (pow-le-pow_left (at_most_one one) (2 * 7 + o)) (tiny o h) le.cross
 
 pub three_turns : (o fl fh cl ch sl sh tl th ul uh : ℕ) (x : Fraction) → IsSumSoFar o 3 fl fh cl ch sl sh tl th ul uh
     → IsStart o fl fh cl ch sl sh x → IsSum o (ul - th) uh x
 unfolding lower_sum
 three_turns o fl fh cl ch sl sh tl th ul uh x h s = let at = h.encloses x s in record {
-    low = le_trans_f (ticks_sub_split ul th) (sub_mono_f at.sum.low at.term.high);
-    high = at.sum.high;
-  }
+  low = le_trans_f (ticks_sub_split ul th) (sub_mono_f at.sum.low at.term.high);
+  high = at.sum.high;
+}
 
 pub three_turns_narrow : (o fl fh cl ch sl sh tl th ul uh : ℕ) (x : Fraction) → o ≤ 1 → IsSumSoFar o 3 fl fh cl ch sl sh tl th ul uh
     → IsStart o fl fh cl ch sl sh x → uh ≤ (ul - th) + 16

@@ -1,9 +1,9 @@
 -- The terms of the series: they fall, they grow with x, and pairs of neighbours do too.
-use Rattle.std.proofs.Common.{ℕ, zero, suc, ◌+◌, ◌-◌, ◌*◌, ◌^◌, ◌<◌, ◌≤◌, ◌≡◌, arith, refl, ap, sym, subst}
-use Rattle.std.proofs.Math.Nat.{mul-le-mul, mul-le-mul_left, mul-le-mul_right, mul-pos, pow-suc, pow-zero, pow-le-pow_left, zero-lt-suc}
+use Rattle.std.proofs.Common.{ℕ, zero, suc, ◌+◌, ◌-◌, ◌*◌, ◌^◌, ◌<◌, ◌≤◌, ◌≡◌, arith, subst}
+use Rattle.std.proofs.Math.Nat.{mul-le-mul, mul-le-mul_left, mul-pos, pow-suc, pow-zero, pow-le-pow_left, zero-lt-suc}
 use Rattle.std.proofs.lemmas.Nat.{mul-pow}
 use Rattle.fx_base.specs.Fraction.{Fraction, ◌≤ᶠ◌, ◌+ᶠ◌, whole}
-use Rattle.fx_base.proofs.Order.{le_refl_f, le_trans_f, add_le_f}
+use Rattle.fx_base.proofs.Order.{le_trans_f, add_le_f}
 use Rattle.series_enclose.specs.Series.{power_over, arctan_term, factorial, factorial_positive, exponential_term, sine_term, cosine_term}
 use Rattle.series_enclose.proofs.Alternating.{IsFalling, IsRisingInPairs, IsSinkingInPairs}
 
@@ -25,9 +25,9 @@ pub power_over_falls : (x : Fraction) (m k d e : ℕ) (p : 0 < d) (q : 0 < e) �
     → power_over x k e q ≤ᶠ power_over x m d p
 unfolding power_over
 power_over_falls x m k d e p q h f g = record {
-    cross = rw (pow_two_more x.num m k f, pow_two_more x.den m k f)
-        (falling_core (x.num ^ m) (x.den ^ m) x.num x.den d e (at_most_one h) g);
-  }
+  cross = rw (pow_two_more x.num m k f, pow_two_more x.den m k f)
+      (falling_core (x.num ^ m) (x.den ^ m) x.num x.den d e (at_most_one h) g);
+}
 
 pub factorial_two : (m : ℕ) → factorial (suc (suc m)) ≡ (factorial m * suc m) * suc (suc m)
 unfolding factorial
@@ -51,8 +51,8 @@ factorial_rises m k e = let f : k ≡ suc (suc m) = omega arith in
 pub arctan_falls : (t : Fraction) → t ≤ᶠ whole 1 → IsFalling (arctan_term t)
 unfolding arctan_term
 arctan_falls t h = record {
-    falls = λ j k e. power_over_falls t (suc (2 * j)) (suc (2 * k)) (suc (2 * j)) (suc (2 * k)) (zero-lt-suc (2 * j)) (zero-lt-suc (2 * k)) h (omega arith) (omega arith);
-  }
+  falls = λ j k e. power_over_falls t (suc (2 * j)) (suc (2 * k)) (suc (2 * j)) (suc (2 * k)) (zero-lt-suc (2 * j)) (zero-lt-suc (2 * k)) h (omega arith) (omega arith);
+}
 
 pub exponential_falls : (x : Fraction) (m k : ℕ) → x ≤ᶠ whole 1 → k ≡ m + 2 → exponential_term x k ≤ᶠ exponential_term x m
 unfolding exponential_term
@@ -101,7 +101,7 @@ pair_numbers : (a b u v D F G : ℕ) → u ≤ v → v ≤ D → a ≤ b → a *
 pair_numbers a b u v D F G h k g r f =
     let P : ℕ → Type 0 = λ y. y ≤ D → a * y ≤ b * u → a * ((D * D) * G) + (b * (y * y)) * F ≤ b * ((D * D) * G) + (a * (u * u)) * F in
     let Q : ℕ → Type 0 = λ z. a * (u + (v - u)) ≤ z * u
-        → a * ((D * D) * G) + (z * ((u + (v - u)) * (u + (v - u)))) * F ≤ z * ((D * D) * G) + (a * (u * u)) * F in
+    → a * ((D * D) * G) + (z * ((u + (v - u)) * (u + (v - u)))) * F ≤ z * ((D * D) * G) + (a * (u * u)) * F in
     let v_is : u + (v - u) ≡ v = omega arith in
     let b_is : a + (b - a) ≡ b = omega arith in
     subst P v_is (λ within ratio. subst Q b_is (λ ratio_of. pair_core a (b - a) u (v - u) D F G within ratio_of f) ratio) k r
@@ -121,13 +121,13 @@ pair_cross a b u v P D F G Z h = omega (arith, mul-le-mul_left (P * Z) h)
 
 pair_over_one : (u v D m k F G : ℕ) (p : 0 < D) (q : 0 < F) (r : 0 < G) → u ≤ v → v ≤ D → k ≡ m + 2 → 1 ≤ m → 3 * F ≤ G
     → (power_over (over_one u D p) m F q +ᶠ power_over (over_one v D p) k G r)
-        ≤ᶠ (power_over (over_one v D p) m F q +ᶠ power_over (over_one u D p) k G r)
+    ≤ᶠ (power_over (over_one v D p) m F q +ᶠ power_over (over_one u D p) k G r)
 unfolding power_over over_one ◌+ᶠ◌
 pair_over_one u v D m k F G p q r h g e l f = record {
-    cross = rw (pow_two_more D m k e, pow_two_more u m k e, pow_two_more v m k e)
-        (pair_cross (u ^ m) (v ^ m) u v (D ^ m) D F G ((D ^ m * F) * ((D ^ m * (D * D)) * G))
-            (pair_numbers (u ^ m) (v ^ m) u v D F G h g (pow-le-pow_left h m) (power_ratio u v m h l) f));
-  }
+  cross = rw (pow_two_more D m k e, pow_two_more u m k e, pow_two_more v m k e)
+      (pair_cross (u ^ m) (v ^ m) u v (D ^ m) D F G ((D ^ m * F) * ((D ^ m * (D * D)) * G))
+      (pair_numbers (u ^ m) (v ^ m) u v D F G h g (pow-le-pow_left h m) (power_ratio u v m h l) f));
+}
 
 unfoldable pub over_left : (x y : Fraction) → Fraction
 over_left x y = over_one (x.num * y.den) (x.den * y.den) (mul-pos x.positive y.positive)
@@ -153,11 +153,11 @@ from_right x y = record { cross = omega arith }
 
 pair_common : (x y : Fraction) (m k F G : ℕ) (q : 0 < F) (r : 0 < G) → x ≤ᶠ y → y ≤ᶠ whole 1 → k ≡ m + 2 → 1 ≤ m → 3 * F ≤ G
     → (power_over (over_left x y) m F q +ᶠ power_over (over_right x y) k G r)
-        ≤ᶠ (power_over (over_right x y) m F q +ᶠ power_over (over_left x y) k G r)
+    ≤ᶠ (power_over (over_right x y) m F q +ᶠ power_over (over_left x y) k G r)
 unfolding over_left over_right
 pair_common x y m k F G q r h one e l f =
     pair_over_one (x.num * y.den) (y.num * x.den) (x.den * y.den) m k F G (mul-pos x.positive y.positive) q r h.cross
-        (within x.den y.num y.den (at_most_one one)) e l f
+    (within x.den y.num y.den (at_most_one one)) e l f
   where
     within : (D v E : ℕ) → v ≤ E → v * D ≤ D * E
     within D v E h = omega (arith, mul-le-mul_left D h)
@@ -175,16 +175,16 @@ pub exponential_pair : (x y : Fraction) (m k : ℕ) → x ≤ᶠ y → y ≤ᶠ 
 unfolding exponential_term
 exponential_pair x y m k h one e l =
     pair_of_powers x y m k (factorial m) (factorial k) (factorial_positive m) (factorial_positive k) h one e l
-        (let g = factorial_grows m k e l in omega arith)
+    (let g = factorial_grows m k e l in omega arith)
 
 -- ---- sine and cosine
 
 pub sine_pairs : (x y : Fraction) → x ≤ᶠ y → y ≤ᶠ whole 1 → IsRisingInPairs (sine_term x) (sine_term y)
 unfolding sine_term
 sine_pairs x y h one = record {
-    terms = λ k. exponential_rises (2 * k + 1) h;
-    pairs = λ j k e. exponential_pair x y (2 * (2 * k) + 1) (2 * j + 1) h one (omega arith) (omega arith);
-  }
+  terms = λ k. exponential_rises (2 * k + 1) h;
+  pairs = λ j k e. exponential_pair x y (2 * (2 * k) + 1) (2 * j + 1) h one (omega arith) (omega arith);
+}
 
 zeroth_terms : (x y : Fraction) (d : ℕ) (p : 0 < d) → power_over y 0 d p ≤ᶠ power_over x 0 d p
 unfolding power_over
@@ -193,7 +193,7 @@ zeroth_terms x y d p = record { cross = rw (pow-zero y.num, pow-zero x.num, pow-
 pub cosine_pairs : (x y : Fraction) → x ≤ᶠ y → y ≤ᶠ whole 1 → IsSinkingInPairs (cosine_term x) (cosine_term y)
 unfolding cosine_term exponential_term
 cosine_pairs x y h one = record {
-    start = zeroth_terms x y (factorial 0) (factorial_positive 0);
-    terms = λ k. power_over_rises (2 * k) (factorial (2 * k)) (factorial_positive (2 * k)) h;
-    pairs = λ n. exponential_pair x y (2 * (2 * n + 1)) (2 * (2 * n + 2)) h one (omega arith) (omega arith);
-  }
+  start = zeroth_terms x y (factorial 0) (factorial_positive 0);
+  terms = λ k. power_over_rises (2 * k) (factorial (2 * k)) (factorial_positive (2 * k)) h;
+  pairs = λ n. exponential_pair x y (2 * (2 * n + 1)) (2 * (2 * n + 2)) h one (omega arith) (omega arith);
+}

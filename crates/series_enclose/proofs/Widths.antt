@@ -2,14 +2,13 @@
 use Rattle.std.proofs.Common.{ℕ, zero, suc, ◌+◌, ◌-◌, ◌*◌, ◌^◌, ◌<◌, ◌≤◌, ◌≡◌, arith, refl, ap, subst, lit≤}
 use Rattle.std.proofs.Math.Nat.{mul-le-mul, mul-le-mul_left, mul-pos, pow-suc, pow-zero, one-mul, pow-le-pow_left, one-le-pow, zero-lt-suc}
 use Rattle.fx_base.specs.Fraction.{Fraction, ◌≤ᶠ◌, ◌+ᶠ◌, ◌-ᶠ◌, ◌*ᶠ◌, whole, ratio}
-use Rattle.fx_base.specs.Interval.{Interval}
 use Rattle.fx_base.proofs.Order.{le_refl_f, le_trans_f, add_le_f, add_comm_f, add_right_f, add_left_f, add_swap_f, add_cancel_f, le_add_f, le_add_left_f, sub_mono_f, sub_le_f, le_sub_f, le_sub_add_f, sub_add_f, mul_le_f, mul_add_f, mul_add_right_f}
-use Rattle.fx_base.proofs.Ratios.{ratio_num, ratio_den, le_ratio}
+use Rattle.fx_base.proofs.Ratios.{le_ratio}
 use Rattle.series_enclose.specs.Series.{upper_sum, lower_sum, power_over, arctan_term, one_fifth, one_of_239, factorial, factorial_positive, exponential_term, sine_term, cosine_term, pi, radians, sine_of, cosine_of, sine, cosine}
-use Rattle.series_enclose.proofs.Alternating.{IsFalling, term_le_upper, upper_le_lower, pair_step, pair_step_down}
-use Rattle.series_enclose.proofs.Terms.{pow_two_more, at_most_one, sine_falls, cosine_falls, exponential_pair, exponential_rises, power_over_rises, over_one, over_left, over_right, to_left, to_right, from_left, from_right}
-use Rattle.series_enclose.proofs.PiLaws.{fifth_falls, of_239_falls}
-use Rattle.series_enclose.proofs.Arcs.{arc_order, arc_high_one, arc_low_one, radians_grow}
+use Rattle.series_enclose.specs.Laws.{narrowing}
+use Rattle.series_enclose.proofs.Alternating.{term_le_upper, upper_le_lower, pair_step, pair_step_down}
+use Rattle.series_enclose.proofs.Terms.{pow_two_more, at_most_one, sine_falls, cosine_falls, exponential_pair, exponential_rises, over_one, over_left, over_right, to_left, to_right, from_left, from_right}
+use Rattle.series_enclose.proofs.Arcs.{arc_order, arc_high_one, arc_low_one}
 
 power_of_one : (m : ℕ) → 1 ^ m ≡ 1
 power_of_one zero = pow-zero 1
@@ -35,9 +34,9 @@ two_terms : (j : ℕ) → ((whole 16 *ᶠ arctan_term one_fifth j) +ᶠ (whole 4
 unfolding arctan_term power_over one_fifth one_of_239 ratio whole ◌+ᶠ◌ ◌*ᶠ◌
 two_terms j =
     le_ratio 4 (25 ^ j) ((whole 16 *ᶠ arctan_term one_fifth j) +ᶠ (whole 4 *ᶠ arctan_term one_of_239 j)) (power_positive 25 j (zero-lt-suc 24))
-        (rw (power_of_one (suc (2 * j)))
-          (let core = two_terms_core (5 ^ suc (2 * j)) (239 ^ suc (2 * j)) (suc (2 * j)) (25 ^ j) (five_power j) (pow-le-pow_left (lit≤ tt) (suc (2 * j))) (zero-lt-suc (2 * j)) in
-           omega (arith, core)))
+    (rw (power_of_one (suc (2 * j)))
+    (let core = two_terms_core (5 ^ suc (2 * j)) (239 ^ suc (2 * j)) (suc (2 * j)) (25 ^ j) (five_power j) (pow-le-pow_left (lit≤ tt) (suc (2 * j))) (zero-lt-suc (2 * j)) in
+    omega (arith, core)))
 
 -- 16 a - 4 b, with a from l to l + s and b from k to k + t
 machin_width : (u l s v k t : Fraction) → u ≤ᶠ (l +ᶠ s) → v ≤ᶠ (k +ᶠ t) → (u -ᶠ k) ≤ᶠ ((l -ᶠ v) +ᶠ (s +ᶠ t))
@@ -61,11 +60,11 @@ pi_width n =
     let t = arctan_term one_fifth in
     let s = arctan_term one_of_239 in
     le_trans_f
-      (machin_width (whole 16 *ᶠ upper_sum t n) (whole 16 *ᶠ lower_sum t n) (whole 16 *ᶠ t (2 * n + 1))
-        (whole 4 *ᶠ upper_sum s n) (whole 4 *ᶠ lower_sum s n) (whole 4 *ᶠ s (2 * n + 1))
-        (scaled_width 16 (upper_sum t n) (lower_sum t n) (t (2 * n + 1)) (upper_le_lower t n))
-        (scaled_width 4 (upper_sum s n) (lower_sum s n) (s (2 * n + 1)) (upper_le_lower s n)))
-      (add_le_f (le_refl_f ((whole 16 *ᶠ lower_sum t n) -ᶠ (whole 4 *ᶠ upper_sum s n))) (two_terms (2 * n + 1)))
+    (machin_width (whole 16 *ᶠ upper_sum t n) (whole 16 *ᶠ lower_sum t n) (whole 16 *ᶠ t (2 * n + 1))
+    (whole 4 *ᶠ upper_sum s n) (whole 4 *ᶠ lower_sum s n) (whole 4 *ᶠ s (2 * n + 1))
+    (scaled_width 16 (upper_sum t n) (lower_sum t n) (t (2 * n + 1)) (upper_le_lower t n))
+    (scaled_width 4 (upper_sum s n) (lower_sum s n) (s (2 * n + 1)) (upper_le_lower s n)))
+    (add_le_f (le_refl_f ((whole 16 *ᶠ lower_sum t n) -ᶠ (whole 4 *ᶠ upper_sum s n))) (two_terms (2 * n + 1)))
 
 -- ---- an arc
 
@@ -99,9 +98,9 @@ pub spread_step_down : (p q a b c d x y : Fraction) → a ≤ᶠ p → (p +ᶠ x
     → (((p -ᶠ a) +ᶠ b) +ᶠ x) ≤ᶠ (((q -ᶠ c) +ᶠ d) +ᶠ y)
 spread_step_down p q a b c d x y uncut g h =
     let left : (((p -ᶠ a) +ᶠ b) +ᶠ x) ≤ᶠ (((p +ᶠ x) -ᶠ a) +ᶠ b) =
-        le_trans_f (add_swap_f (p -ᶠ a) b x) (add_le_f (sub_out_of_sum p a x uncut) (le_refl_f b)) in
+    le_trans_f (add_swap_f (p -ᶠ a) b x) (add_le_f (sub_out_of_sum p a x uncut) (le_refl_f b)) in
     let right : (((q +ᶠ y) -ᶠ c) +ᶠ d) ≤ᶠ (((q -ᶠ c) +ᶠ d) +ᶠ y) =
-        le_trans_f (add_le_f (sum_out_of_sub q c y) (le_refl_f d)) (add_swap_f (q -ᶠ c) y d) in
+    le_trans_f (add_le_f (sum_out_of_sub q c y) (le_refl_f d)) (add_swap_f (q -ᶠ c) y d) in
     le_trans_f left (le_trans_f (pair_step_down (p +ᶠ x) (q +ᶠ y) a b c d (le_trans_f uncut (le_add_f p x)) g h) right)
 
 -- p + a - b + x is at most q + c - d + y
@@ -109,9 +108,9 @@ spread_step_up : (p q a b c d x y : Fraction) → b ≤ᶠ a → (p +ᶠ x) ≤�
     → (((p +ᶠ a) -ᶠ b) +ᶠ x) ≤ᶠ (((q +ᶠ c) -ᶠ d) +ᶠ y)
 spread_step_up p q a b c d x y uncut g h =
     let left : (((p +ᶠ a) -ᶠ b) +ᶠ x) ≤ᶠ (((p +ᶠ x) +ᶠ a) -ᶠ b) =
-        le_trans_f (sub_out_of_sum (p +ᶠ a) b x (le_trans_f uncut (le_add_left_f p a))) (sub_mono_f (add_swap_f p a x) (le_refl_f b)) in
+    le_trans_f (sub_out_of_sum (p +ᶠ a) b x (le_trans_f uncut (le_add_left_f p a))) (sub_mono_f (add_swap_f p a x) (le_refl_f b)) in
     let right : (((q +ᶠ y) +ᶠ c) -ᶠ d) ≤ᶠ (((q +ᶠ c) -ᶠ d) +ᶠ y) =
-        le_trans_f (sub_mono_f (add_swap_f q y c) (le_refl_f d)) (sum_out_of_sub (q +ᶠ c) d y) in
+    le_trans_f (sub_mono_f (add_swap_f q y c) (le_refl_f d)) (sum_out_of_sub (q +ᶠ c) d y) in
     le_trans_f left (le_trans_f (pair_step (p +ᶠ x) (q +ᶠ y) a b c d g h) right)
 
 -- the first terms: x itself, and 1
@@ -168,8 +167,8 @@ squares_over_one : (u v D : ℕ) (p : 0 < D) → u ≤ v → v ≤ D
     → (cosine_term (over_one v D p) 1 +ᶠ over_one u D p) ≤ᶠ (cosine_term (over_one u D p) 1 +ᶠ over_one v D p)
 unfolding cosine_term exponential_term power_over factorial over_one ◌+ᶠ◌
 squares_over_one u v D p h g = record {
-    cross = rw (power_two u, power_two v, power_two D) (squares_cross u v D (((D * D) * 2) * D) (squares_core u v D h g));
-  }
+  cross = rw (power_two u, power_two v, power_two D) (squares_cross u v D (((D * D) * 2) * D) (squares_core u v D h g));
+}
 
 squares_common : (x y : Fraction) → x ≤ᶠ y → y ≤ᶠ whole 1
     → (cosine_term (over_right x y) 1 +ᶠ over_left x y) ≤ᶠ (cosine_term (over_left x y) 1 +ᶠ over_right x y)
@@ -191,19 +190,19 @@ unfolding upper_sum
 sine_spreads x y h one zero = first_spreads x y
 sine_spreads x y h one (suc n) =
     spread_step_down (upper_sum (sine_term y) n) (upper_sum (sine_term x) n)
-        (sine_term y (2 * n + 1)) (sine_term y (2 * n + 2)) (sine_term x (2 * n + 1)) (sine_term x (2 * n + 2)) x y
-        (term_le_upper (sine_term y) (sine_falls y one) n) (sine_spreads x y h one n) (sine_later_pair x y h one n)
+    (sine_term y (2 * n + 1)) (sine_term y (2 * n + 2)) (sine_term x (2 * n + 1)) (sine_term x (2 * n + 2)) x y
+    (term_le_upper (sine_term y) (sine_falls y one) n) (sine_spreads x y h one n) (sine_later_pair x y h one n)
 
 -- and the cosine's, pair by pair from the start
 cosine_lower_spreads : (x y : Fraction) → x ≤ᶠ y → y ≤ᶠ whole 1 → (n : ℕ) → (lower_sum (cosine_term x) n +ᶠ x) ≤ᶠ (lower_sum (cosine_term y) n +ᶠ y)
 unfolding upper_sum lower_sum
 cosine_lower_spreads x y h one zero =
     pair_step_down (cosine_term x 0) (cosine_term y 0) (cosine_term x 1) x (cosine_term y 1) y
-        ((cosine_falls x (le_trans_f h one)).falls 0 1 refl) (zeroth x y) (squares_spread x y h one)
+    ((cosine_falls x (le_trans_f h one)).falls 0 1 refl) (zeroth x y) (squares_spread x y h one)
 cosine_lower_spreads x y h one (suc n) =
     spread_step_up (lower_sum (cosine_term x) n) (lower_sum (cosine_term y) n)
-        (cosine_term x (2 * n + 2)) (cosine_term x (2 * suc n + 1)) (cosine_term y (2 * n + 2)) (cosine_term y (2 * suc n + 1)) x y
-        ((cosine_falls x (le_trans_f h one)).falls (2 * n + 2) (2 * suc n + 1) (omega arith)) (cosine_lower_spreads x y h one n) (cosine_later_pair x y h one n)
+    (cosine_term x (2 * n + 2)) (cosine_term x (2 * suc n + 1)) (cosine_term y (2 * n + 2)) (cosine_term y (2 * suc n + 1)) x y
+    ((cosine_falls x (le_trans_f h one)).falls (2 * n + 2) (2 * suc n + 1) (omega arith)) (cosine_lower_spreads x y h one n) (cosine_later_pair x y h one n)
 
 cosine_spreads : (x y : Fraction) → x ≤ᶠ y → y ≤ᶠ whole 1 → (n : ℕ) → (upper_sum (cosine_term x) n +ᶠ x) ≤ᶠ (upper_sum (cosine_term y) n +ᶠ y)
 unfolding upper_sum lower_sum
@@ -224,7 +223,7 @@ last_term : (x : Fraction) (m k : ℕ) → x ≤ᶠ whole 1 → factorial k ≤ 
 unfolding exponential_term power_over
 last_term x m k one h =
     le_ratio 1 (factorial k) (exponential_term x m) (factorial_positive k)
-        (let both = mul-le-mul {n₁ = x.num ^ m} {m₁ = factorial k} {n₂ = x.den ^ m} {m₂ = factorial m} (pow-le-pow_left (at_most_one one) m) h in omega (arith, both))
+    (let both = mul-le-mul {n₁ = x.num ^ m} {m₁ = factorial k} {n₂ = x.den ^ m} {m₂ = factorial m} (pow-le-pow_left (at_most_one one) m) h in omega (arith, both))
 
 factorial_next : (k : ℕ) → factorial k ≤ factorial (suc k)
 unfolding factorial
@@ -244,25 +243,25 @@ two_widths u v l t w z g h k =
 
 -- the enclosures of a sine and a cosine are at most 1 / (4n + 2)! + 1 / 25^(2n + 1) wide
 pub sine_width : (n : ℕ) (g : Fraction) → g ≤ᶠ whole 45
-    → (sine n g).hi ≤ᶠ ((sine n g).lo +ᶠ (ratio 1 (factorial (4 * n + 2)) +ᶠ ratio 1 (25 ^ (2 * n + 1))))
-unfolding sine sine_of
+    → (sine n g).hi ≤ᶠ ((sine n g).lo +ᶠ narrowing n)
+unfolding sine sine_of narrowing
 sine_width n g h =
     let x = (radians (pi n) g).lo in
     let y = (radians (pi n) g).hi in
     two_widths (upper_sum (sine_term y) n) (upper_sum (sine_term x) n) (lower_sum (sine_term x) n) (sine_term x (2 * n + 1))
-        (ratio 1 (25 ^ (2 * n + 1))) (ratio 1 (factorial (4 * n + 2)))
-        (spread_width (upper_sum (sine_term y) n) (upper_sum (sine_term x) n) x y (ratio 1 (25 ^ (2 * n + 1)))
-            (sine_spreads x y (arc_order n g) (arc_high_one n g h) n) (arc_width n g h))
-        (upper_le_lower (sine_term x) n) (sine_last x n (arc_low_one n g h))
+    (ratio 1 (25 ^ (2 * n + 1))) (ratio 1 (factorial (4 * n + 2)))
+    (spread_width (upper_sum (sine_term y) n) (upper_sum (sine_term x) n) x y (ratio 1 (25 ^ (2 * n + 1)))
+    (sine_spreads x y (arc_order n g) (arc_high_one n g h) n) (arc_width n g h))
+    (upper_le_lower (sine_term x) n) (sine_last x n (arc_low_one n g h))
 
 pub cosine_width : (n : ℕ) (g : Fraction) → g ≤ᶠ whole 45
-    → (cosine n g).hi ≤ᶠ ((cosine n g).lo +ᶠ (ratio 1 (factorial (4 * n + 2)) +ᶠ ratio 1 (25 ^ (2 * n + 1))))
-unfolding cosine cosine_of
+    → (cosine n g).hi ≤ᶠ ((cosine n g).lo +ᶠ narrowing n)
+unfolding cosine cosine_of narrowing
 cosine_width n g h =
     let x = (radians (pi n) g).lo in
     let y = (radians (pi n) g).hi in
     two_widths (upper_sum (cosine_term x) n) (upper_sum (cosine_term y) n) (lower_sum (cosine_term y) n) (cosine_term y (2 * n + 1))
-        (ratio 1 (25 ^ (2 * n + 1))) (ratio 1 (factorial (4 * n + 2)))
-        (spread_width (upper_sum (cosine_term x) n) (upper_sum (cosine_term y) n) x y (ratio 1 (25 ^ (2 * n + 1)))
-            (cosine_spreads x y (arc_order n g) (arc_high_one n g h) n) (arc_width n g h))
-        (upper_le_lower (cosine_term y) n) (cosine_last y n (arc_high_one n g h))
+    (ratio 1 (25 ^ (2 * n + 1))) (ratio 1 (factorial (4 * n + 2)))
+    (spread_width (upper_sum (cosine_term x) n) (upper_sum (cosine_term y) n) x y (ratio 1 (25 ^ (2 * n + 1)))
+    (cosine_spreads x y (arc_order n g) (arc_high_one n g h) n) (arc_width n g h))
+    (upper_le_lower (cosine_term y) n) (cosine_last y n (arc_high_one n g h))

@@ -1,7 +1,7 @@
 -- What the program's spans of pi, sine and cosine are.
-use Rattle.std.specs.Prelude.{ℕ, ◌*◌, ◌<◌, ◌≤ℤ◌, ◌+ℤ◌, pos, List, length, get_or}
+use Rattle.std.specs.Prelude.{ℕ, ◌*◌, ◌≤ℤ◌, ◌+ℤ◌, pos}
 use Rattle.fx_base.specs.Ends.{Ends}
-use Rattle.fx_base.specs.Interval.{Interval, Meets}
+use Rattle.fx_base.specs.Interval.{Meets}
 use Rattle.fx_base.specs.Units.{millionths, of_span}
 use Rattle.series_enclose.specs.Series.{sine, cosine}
 

@@ -34,9 +34,9 @@ one_of_239 = ratio 1 239
 -- pi = 16 arctan(1/5) - 4 arctan(1/239) (Machin)
 unfoldable pub pi : ℕ → Interval
 pi n = record {
-    lo = (whole 16 *ᶠ lower_sum (arctan_term one_fifth) n) -ᶠ (whole 4 *ᶠ upper_sum (arctan_term one_of_239) n);
-    hi = (whole 16 *ᶠ upper_sum (arctan_term one_fifth) n) -ᶠ (whole 4 *ᶠ lower_sum (arctan_term one_of_239) n);
-  }
+  lo = (whole 16 *ᶠ lower_sum (arctan_term one_fifth) n) -ᶠ (whole 4 *ᶠ upper_sum (arctan_term one_of_239) n);
+  hi = (whole 16 *ᶠ upper_sum (arctan_term one_fifth) n) -ᶠ (whole 4 *ᶠ lower_sum (arctan_term one_of_239) n);
+}
 
 -- ---- sine and cosine of 0 to 45 degrees
 

@@ -22,9 +22,9 @@ is_above_slope p n x y g =
 -- from the greatest candidate that is below the slope to the least that is above it, which is 45 where none is
 unfoldable pub slant_with : Interval → ℕ → ℕ → ℕ → Interval
 slant_with p n x y = record {
-    lo = halved n (greatest (λ j. is_below_slope p n x y (halved n j)) (45 * 2 ^ n));
-    hi = halved n (least (λ j. is_above_slope p n x y (halved n j)) (45 * 2 ^ n) 0);
-  }
+  lo = halved n (greatest (λ j. is_below_slope p n x y (halved n j)) (45 * 2 ^ n));
+  hi = halved n (least (λ j. is_above_slope p n x y (halved n j)) (45 * 2 ^ n) 0);
+}
 
 -- the angle whose squared tangent is y / x, for y at most x and x positive
 unfoldable pub slant : ℕ → ℕ → ℕ → Interval

@@ -4,6 +4,7 @@
 mod angle;
 mod arc;
 mod bounds;
+pub mod laws;
 mod pi;
 mod table;
 mod turns;
@@ -11,3 +12,6 @@ mod turns;
 pub use angle::{cos_span, sin_span};
 pub use pi::pi_span;
 pub use table::TangentTable;
+
+#[cfg(test)]
+mod tests;

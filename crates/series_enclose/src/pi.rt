@@ -7,6 +7,7 @@ use fx_base::{Span, tick_of};
 
 /// The ticks next below and next above pi.
 pub const PI_LOW: u64 = 215_888_603_272;
+
 pub const PI_HIGH: u64 = 215_888_603_273;
 
 /// Pi, to one tick. It meets, at every depth, what the first terms of Machin's formula `16 arctan(1/5) - 4 arctan(1/239)` enclose.
