@@ -104,7 +104,7 @@ spread_step_down p q a b c d x y uncut g h =
     le_trans_f left (le_trans_f (pair_step_down (p +ᶠ x) (q +ᶠ y) a b c d (le_trans_f uncut (le_add_f p x)) g h) right)
 
 -- p + a - b + x is at most q + c - d + y
-spread_step_up : (p q a b c d x y : Fraction) → b ≤ᶠ a → (p +ᶠ x) ≤ᶠ (q +ᶠ y) → (a +ᶠ d) ≤ᶠ (c +ᶠ b)
+pub spread_step_up : (p q a b c d x y : Fraction) → b ≤ᶠ a → (p +ᶠ x) ≤ᶠ (q +ᶠ y) → (a +ᶠ d) ≤ᶠ (c +ᶠ b)
     → (((p +ᶠ a) -ᶠ b) +ᶠ x) ≤ᶠ (((q +ᶠ c) -ᶠ d) +ᶠ y)
 spread_step_up p q a b c d x y uncut g h =
     let left : (((p +ᶠ a) -ᶠ b) +ᶠ x) ≤ᶠ (((p +ᶠ x) +ᶠ a) -ᶠ b) =
@@ -117,11 +117,11 @@ spread_step_up p q a b c d x y uncut g h =
 power_one : (p : ℕ) → p ^ 1 ≡ p
 power_one p = rw (pow-suc p 0, pow-zero) (one-mul p)
 
-sine_first : (x : Fraction) → sine_term x 0 ≤ᶠ x
+pub sine_first : (x : Fraction) → sine_term x 0 ≤ᶠ x
 unfolding sine_term exponential_term power_over factorial
 sine_first x = record { cross = rw (power_one x.num, power_one x.den) (omega arith) }
 
-first_of_sine : (x : Fraction) → x ≤ᶠ sine_term x 0
+pub first_of_sine : (x : Fraction) → x ≤ᶠ sine_term x 0
 unfolding sine_term exponential_term power_over factorial
 first_of_sine x = record { cross = rw (power_one x.num, power_one x.den) (omega arith) }
 

@@ -1,8 +1,9 @@
 -- What holds of the enclosures at every depth.
-use Rattle.std.specs.Prelude.{ℕ, ◌+◌, ◌*◌, ◌^◌}
+use Rattle.std.specs.Prelude.{ℕ, ◌+◌, ◌*◌, ◌^◌, ◌<◌}
 use Rattle.fx_base.specs.Fraction.{Fraction, ◌≤ᶠ◌, ◌+ᶠ◌, ◌*ᶠ◌, whole, ratio}
 use Rattle.fx_base.specs.Nesting.{IsNested}
 use Rattle.series_enclose.specs.Series.{upper_sum, lower_sum, arctan_term, one_fifth, one_of_239, factorial, sine_term, cosine_term, pi, radians, sine, cosine}
+use Rattle.series_enclose.specs.Slant.{slant}
 
 -- ---- each enclosure lies in the one before, and its ends are in order
 
@@ -14,6 +15,14 @@ SineNests = (g : Fraction) → g ≤ᶠ whole 45 → IsNested (λ n. sine n g)
 
 abbrev pub CosineNests : Type 0
 CosineNests = (g : Fraction) → g ≤ᶠ whole 45 → IsNested (λ n. cosine n g)
+
+-- the angle of the slope y / x, for positive x
+abbrev pub SlantNests : Type 0
+SlantNests = (x y : ℕ) → 0 < x → IsNested (λ n. slant n x y)
+
+-- no lower end at one depth passes an upper end at any depth
+abbrev pub SlantRises : Type 0
+SlantRises = (n m x y : ℕ) → 0 < x → (slant n x y).lo ≤ᶠ (slant m x y).hi
 
 -- ---- how wide they are
 

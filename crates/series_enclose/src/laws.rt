@@ -1,7 +1,7 @@
 //! What holds of the definitions in `specs/` at every depth, each as the contract of a function that does nothing. The laws of
 //! square roots stand in `fx_base`.
 
-ghost use Rattle.series_enclose.specs.Laws.{ArctanIsUncut, CosineIsUncut, CosineNarrows, CosineNests, PiIsUncut, PiNarrows, PiNests, SineIsUncut, SineNarrows, SineNests};
+ghost use Rattle.series_enclose.specs.Laws.{ArctanIsUncut, CosineIsUncut, CosineNarrows, CosineNests, PiIsUncut, PiNarrows, PiNests, SineIsUncut, SineNarrows, SineNests, SlantNests, SlantRises};
 
 pub use fx_base::laws::{root_narrows, root_nests};
 
@@ -22,6 +22,20 @@ pub fn sine_nests()
 pub fn cosine_nests()
     ensures { CosineNests }
 {}
+
+/// Each enclosure of the angle of a slope lies within the one before.
+#[tactic(auto, using(crate::proofs::SlantLaws::slant_nested))]
+pub fn slant_nests()
+    ensures { SlantNests }
+{
+}
+
+/// An angle that is below a slope at one depth never passes one that is above it at any depth, since sines rise strictly.
+#[tactic(auto, using(crate::proofs::SlantLaws::slant_any_depths))]
+pub fn slant_rises()
+    ensures { SlantRises }
+{
+}
 
 /// The enclosure of pi at depth n is at most `4 / 25^(2n + 1)` wide.
 #[tactic(auto, using(crate::proofs::Widths::pi_width))]
