@@ -1,16 +1,16 @@
 -- The enclosures of the angle of a slope: they nest, and no lower end passes an upper end at any depth.
-use Rattle.std.proofs.Common.{ℕ, zero, suc, ◌+◌, ◌*◌, ◌^◌, ◌<◌, ◌≤◌, ◌≡◌, ◌⊎◌, inl, inr, Bool, true, arith, refl}
+use Rattle.std.proofs.Common.{ℕ, zero, suc, ◌*◌, ◌^◌, ◌<◌, ◌≤◌, ◌≡◌, ◌⊎◌, inl, inr, true, arith}
 use Rattle.std.proofs.Math.Nat.{pow-suc, zero-lt-suc}
-use Rattle.fx_base.specs.Fraction.{Fraction, ◌≤ᶠ◌, ◌<ᶠ◌, ◌*ᶠ◌, at_most, whole, ratio}
-use Rattle.fx_base.specs.Interval.{Interval, LiesIn}
+use Rattle.fx_base.specs.Fraction.{Fraction, ◌≤ᶠ◌, ◌<ᶠ◌, ◌*ᶠ◌, whole, ratio}
+use Rattle.fx_base.specs.Interval.{Interval}
 use Rattle.fx_base.specs.Nesting.{IsNested}
 use Rattle.fx_base.specs.Search.{greatest, least}
 use Rattle.fx_base.specs.Root.{halved}
-use Rattle.fx_base.proofs.Order.{le_refl_f, le_trans_f, le_lt_trans_f, lt_le_trans_f, le_lt_absurd_f, lt_or_le_f, le_of_lt_f, mul_le_f, mul_lt_f, zero_le_f, at_most_le, at_most_true}
+use Rattle.fx_base.proofs.Order.{le_refl_f, le_trans_f, le_lt_trans_f, le_lt_absurd_f, lt_or_le_f, le_of_lt_f, mul_le_f, mul_lt_f, zero_le_f, at_most_le, at_most_true}
 use Rattle.fx_base.proofs.Near.{any_depths}
 use Rattle.fx_base.proofs.SearchLaws.{greatest_within, greatest_passes, greatest_most, least_within, least_passes, least_least}
 use Rattle.fx_base.proofs.RootLaws.{halved_le, halved_twice, twice_halved}
-use Rattle.series_enclose.specs.Series.{upper_sum, lower_sum, sine_term, pi, radians, sine_of, cosine_of, sine, cosine}
+use Rattle.series_enclose.specs.Series.{upper_sum, sine_term, pi, radians, sine_of, cosine_of, sine, cosine}
 use Rattle.series_enclose.specs.Slant.{is_below_slope, is_above_slope, slant_with, slant}
 use Rattle.series_enclose.proofs.Alternating.{upper_falls_to}
 use Rattle.series_enclose.proofs.Terms.{sine_falls}
@@ -50,7 +50,7 @@ pub sine_high_strict : (n : ℕ) (g h : Fraction) → g <ᶠ h → h ≤ᶠ whol
 unfolding sine sine_of
 sine_high_strict n g h lt k =
     sine_upper_strict (radians (pi n) g).hi (radians (pi n) h).hi
-        (arc_strict (pi n) g h (positive_three (pi n).hi (le_trans_f (pi_above_three n) (pi_nested.order n))) lt) (arc_high_one n h k) n
+    (arc_strict (pi n) g h (positive_three (pi n).hi (le_trans_f (pi_above_three n) (pi_nested.order n))) lt) (arc_high_one n h k) n
 
 -- ---- the two tests
 
@@ -63,8 +63,8 @@ pub record IsAboveSlope (n x y : ℕ) (g : Fraction) : Type 0 where
 below_is : (n x y : ℕ) (g : Fraction) → is_below_slope (pi n) n x y g ≡ true → IsBelowSlope n x y g
 unfolding is_below_slope sine cosine
 below_is n x y g e = record {
-    squares = at_most_le ((((sine n g).hi) *ᶠ ((sine n g).hi)) *ᶠ whole x) ((((cosine n g).lo) *ᶠ ((cosine n g).lo)) *ᶠ whole y) e;
-  }
+  squares = at_most_le ((((sine n g).hi) *ᶠ ((sine n g).hi)) *ᶠ whole x) ((((cosine n g).lo) *ᶠ ((cosine n g).lo)) *ᶠ whole y) e;
+}
 
 is_below : (n x y : ℕ) (g : Fraction) → IsBelowSlope n x y g → is_below_slope (pi n) n x y g ≡ true
 unfolding is_below_slope sine cosine
@@ -73,8 +73,8 @@ is_below n x y g h = at_most_true h.squares
 above_is : (n x y : ℕ) (g : Fraction) → is_above_slope (pi n) n x y g ≡ true → IsAboveSlope n x y g
 unfolding is_above_slope sine cosine
 above_is n x y g e = record {
-    squares = at_most_le ((((cosine n g).hi) *ᶠ ((cosine n g).hi)) *ᶠ whole y) ((((sine n g).lo) *ᶠ ((sine n g).lo)) *ᶠ whole x) e;
-  }
+  squares = at_most_le ((((cosine n g).hi) *ᶠ ((cosine n g).hi)) *ᶠ whole y) ((((sine n g).lo) *ᶠ ((sine n g).lo)) *ᶠ whole x) e;
+}
 
 is_above : (n x y : ℕ) (g : Fraction) → IsAboveSlope n x y g → is_above_slope (pi n) n x y g ≡ true
 unfolding is_above_slope sine cosine
@@ -94,9 +94,9 @@ below_later n x y g h le k b =
 
 above_later : (n x y : ℕ) (g h : Fraction) → g ≤ᶠ h → h ≤ᶠ whole 45 → IsAboveSlope n x y g → IsAboveSlope (suc n) x y h
 above_later n x y g h le k a = record {
-    squares = le_trans_f (square_times y (le_trans_f ((cosine_nested h k).nests n).upper (cosine_high_falls n g h le k)))
-        (le_trans_f a.squares (square_times x (le_trans_f (sine_low_rises n g h le k) ((sine_nested h k).nests n).lower)));
-  }
+  squares = le_trans_f (square_times y (le_trans_f ((cosine_nested h k).nests n).upper (cosine_high_falls n g h le k)))
+      (le_trans_f a.squares (square_times x (le_trans_f (sine_low_rises n g h le k) ((sine_nested h k).nests n).lower)));
+}
 
 -- ---- candidates
 
@@ -138,8 +138,8 @@ zero_sine n =
 
 zero_below : (n x y : ℕ) → is_below_slope (pi n) n x y (halved n 0) ≡ true
 zero_below n x y = is_below n x y (halved n 0) (record {
-    squares = le_trans_f (square_times x (zero_sine n)) (le_trans_f (zero_square x) (zero_le_f (((cosine n (halved n 0)).lo *ᶠ (cosine n (halved n 0)).lo) *ᶠ whole y)));
-  })
+  squares = le_trans_f (square_times x (zero_sine n)) (le_trans_f (zero_square x) (zero_le_f (((cosine n (halved n 0)).lo *ᶠ (cosine n (halved n 0)).lo) *ᶠ whole y)));
+})
 
 low_of : (n x y : ℕ) → ℕ
 low_of n x y = greatest (λ j. is_below_slope (pi n) n x y (halved n j)) (45 * 2 ^ n)
@@ -163,12 +163,12 @@ square_strict {a} {b} x p h =
 
 never_cross : (n m x y : ℕ) (g h : Fraction) → 0 < x → g ≤ᶠ whole 45 → h ≤ᶠ whole 45 → IsBelowSlope n x y g → IsAboveSlope m x y h → g ≤ᶠ h
 never_cross n m x y g h p k l b a = elim (lt_or_le_f h g) [
-    inl lt ↦
+  | inl lt ↦
       let s : (sine m h).lo <ᶠ (sine n g).hi = le_lt_trans_f (any_depths (λ i. sine i h) (sine_nested h l) m n) (sine_high_strict n h g lt k) in
       let c : (cosine n g).lo ≤ᶠ (cosine m h).hi = le_trans_f (cosine_low_falls n h g (le_of_lt_f lt) k) (any_depths (λ i. cosine i h) (cosine_nested h l) n m) in
       absurd (le_lt_absurd_f (le_trans_f b.squares (le_trans_f (square_times y c) a.squares)) (square_strict x p s))
   | inr le ↦ le
-  ]
+]
 
 low_below : (n x y : ℕ) → IsBelowSlope n x y (halved n (low_of n x y))
 unfolding low_of
@@ -185,16 +185,16 @@ high_within n x y = let h = least_within (λ j. is_above_slope (pi n) n x y (hal
 high_above : (n x y : ℕ) → IsAboveSlope n x y (halved n (high_of n x y)) ⊎ (high_of n x y ≡ 45 * 2 ^ n)
 unfolding high_of
 high_above n x y = elim (least_passes (λ j. is_above_slope (pi n) n x y (halved n j)) (45 * 2 ^ n) 0) [
-    inl e ↦ inl (above_is n x y (halved n (high_of n x y)) e)
+  | inl e ↦ inl (above_is n x y (halved n (high_of n x y)) e)
   | inr e ↦ inr (omega arith)
-  ]
+]
 
 ends_in_order : (n m x y : ℕ) → 0 < x → halved n (low_of n x y) ≤ᶠ halved m (high_of m x y)
 ends_in_order n m x y p =
     let low = candidate_45 n (low_of n x y) (low_within n x y) in
     elim (high_above m x y) [
-      inl a ↦ never_cross n m x y (halved n (low_of n x y)) (halved m (high_of m x y)) p low (candidate_45 m (high_of m x y) (high_within m x y)) (low_below n x y) a
-    | inr e ↦ le_trans_f low (end_is_45 m (high_of m x y) (omega arith))
+      | inl a ↦ never_cross n m x y (halved n (low_of n x y)) (halved m (high_of m x y)) p low (candidate_45 m (high_of m x y) (high_within m x y)) (low_below n x y) a
+      | inr e ↦ le_trans_f low (end_is_45 m (high_of m x y) (omega arith))
     ]
 
 -- a lower end at one depth is at most an upper end at any depth
@@ -213,8 +213,8 @@ low_doubles n x y =
     let j = low_of n x y in
     let bound = low_within n x y in
     greatest_most (λ j. is_below_slope (pi (suc n)) (suc n) x y (halved (suc n) j)) (45 * 2 ^ suc n) (2 * j) (twice_bound n j bound)
-        (is_below (suc n) x y (halved (suc n) (2 * j))
-          (below_later n x y (halved (suc n) (2 * j)) (halved n j) (twice_halved n j) (candidate_45 n j bound) (low_below n x y)))
+    (is_below (suc n) x y (halved (suc n) (2 * j))
+    (below_later n x y (halved (suc n) (2 * j)) (halved n j) (twice_halved n j) (candidate_45 n j bound) (low_below n x y)))
 
 high_doubles : (n x y : ℕ) → high_of (suc n) x y ≤ 2 * high_of n x y
 unfolding high_of
@@ -222,19 +222,19 @@ high_doubles n x y =
     let j = high_of n x y in
     let bound = high_within n x y in
     elim (high_above n x y) [
-      inl a ↦ least_least (λ j. is_above_slope (pi (suc n)) (suc n) x y (halved (suc n) j)) (45 * 2 ^ suc n) 0 (2 * j) (omega arith)
+      | inl a ↦ least_least (λ j. is_above_slope (pi (suc n)) (suc n) x y (halved (suc n) j)) (45 * 2 ^ suc n) 0 (2 * j) (omega arith)
           (is_above (suc n) x y (halved (suc n) (2 * j))
-            (above_later n x y (halved n j) (halved (suc n) (2 * j)) (halved_twice n j) (candidate_45 (suc n) (2 * j) (twice_bound n j bound)) a))
-    | inr e ↦ let h = high_within (suc n) x y in let f : 45 * 2 ^ suc n ≡ 2 * (45 * 2 ^ n) = rw pow-suc (omega arith) in omega arith
+          (above_later n x y (halved n j) (halved (suc n) (2 * j)) (halved_twice n j) (candidate_45 (suc n) (2 * j) (twice_bound n j bound)) a))
+      | inr e ↦ let h = high_within (suc n) x y in let f : 45 * 2 ^ suc n ≡ 2 * (45 * 2 ^ n) = rw pow-suc (omega arith) in omega arith
     ]
 
 -- the enclosures of a slant nest
 pub slant_nested : (x y : ℕ) → 0 < x → IsNested (λ n. slant n x y)
 unfolding slant slant_with low_of high_of
 slant_nested x y p = record {
-    nests = λ n. record {
-      lower = le_trans_f (halved_twice n (low_of n x y)) (halved_le (suc n) (2 * low_of n x y) (low_of (suc n) x y) (low_doubles n x y));
-      upper = le_trans_f (halved_le (suc n) (high_of (suc n) x y) (2 * high_of n x y) (high_doubles n x y)) (twice_halved n (high_of n x y));
-    };
-    order = λ n. ends_in_order n n x y p;
-  }
+  nests = λ n. record {
+    lower = le_trans_f (halved_twice n (low_of n x y)) (halved_le (suc n) (2 * low_of n x y) (low_of (suc n) x y) (low_doubles n x y));
+    upper = le_trans_f (halved_le (suc n) (high_of (suc n) x y) (2 * high_of n x y) (high_doubles n x y)) (twice_halved n (high_of n x y));
+  };
+  order = λ n. ends_in_order n n x y p;
+}

@@ -27,15 +27,13 @@ pub fn cosine_nests()
 #[tactic(auto, using(crate::proofs::SlantLaws::slant_nested))]
 pub fn slant_nests()
     ensures { SlantNests }
-{
-}
+{}
 
 /// An angle that is below a slope at one depth never passes one that is above it at any depth, since sines rise strictly.
 #[tactic(auto, using(crate::proofs::SlantLaws::slant_any_depths))]
 pub fn slant_rises()
     ensures { SlantRises }
-{
-}
+{}
 
 /// The enclosure of pi at depth n is at most `4 / 25^(2n + 1)` wide.
 #[tactic(auto, using(crate::proofs::Widths::pi_width))]
