@@ -1,0 +1,11 @@
+pub mod Alternating
+pub mod ArcSteps
+pub mod Arcs
+pub mod Gaps
+pub mod PiLaws
+pub mod Rows
+pub mod SlantLaws
+pub mod TermSums
+pub mod Terms
+pub mod Uncut
+pub mod Widths
