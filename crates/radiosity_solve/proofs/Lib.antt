@@ -1,0 +1,4 @@
+pub mod Sums
+pub mod Maximum
+pub mod Pairs
+pub mod Elimination

@@ -1,0 +1,2 @@
+//! Bounds of the solution of an interval system.
+#![tactic(auto)]
