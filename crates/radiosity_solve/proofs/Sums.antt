@@ -22,6 +22,10 @@ pub total-mix : (n c d : ℕ) (k f g : ℕ → ℕ)
 total-mix zero c d k f g = omega arith
 total-mix (suc n) c d k f g = omega (arith, total-mix n c d k f g)
 
+pub total-times : (n c : ℕ) (k f : ℕ → ℕ) → total n (λ j. k j * (c * f j)) ≡ c * total n (λ j. k j * f j)
+total-times zero c k f = omega arith
+total-times (suc n) c k f = omega (arith, total-times n c k f)
+
 pub total-add : (n : ℕ) (f g : ℕ → ℕ) → total n (λ j. f j + g j) ≡ total n f + total n g
 total-add zero f g = refl
 total-add (suc n) f g = omega (arith, total-add n f g)
