@@ -1,3 +1,6 @@
 pub mod Values
 pub mod Whole
+pub mod Equations
+pub mod Lit
 pub mod System
+mod LitTests
