@@ -34,3 +34,9 @@ solution n k d i =
     let q : ℕ = common_denominator n k d in
     let coefficient : ℕ → ℕ → ℕ = λ i j. over q (k i j) in
     ratio (numerator n q coefficient (λ i. over q (d i)) i) (denominator n q coefficient)
+
+-- the same equations in whole numbers, over the denominator q
+pub record IsOver (n q : ℕ) (kk : ℕ → ℕ → ℕ) (ee : ℕ → ℕ) (k : ℕ → ℕ → Fraction) (d : ℕ → Fraction) : Type 0 where
+  pub positive : 0 < q
+  pub coefficient : (i j : ℕ) → i < n → j < n → kk i j * (k i j).den ≡ (k i j).num * q
+  pub light : (i : ℕ) → i < n → ee i * (d i).den ≡ (d i).num * q

@@ -3,10 +3,10 @@ use Rattle.std.proofs.Common.{ℕ, zero, suc, ◌+◌, ◌-◌, ◌*◌, ◌/◌
 use Rattle.std.proofs.Math.Nat.{mul-le-mul_left, le_of_mul-le-mul_left}
 use Rattle.interval_system.specs.Whole.{total, IsBelowOne}
 use Rattle.radiosity_solve.specs.Shown.{down_to, up_to, lower_sum, upper_sum, IsShownLower, IsShownUpper}
+use Rattle.radiosity_solve.specs.Laws.{IsBelowEquations}
 use Rattle.radiosity_solve.proofs.Sums.{total-le, total-mix, total-times, total-scale, total-add}
 use Rattle.radiosity_solve.proofs.Maximum.{at_most}
 use Rattle.radiosity_solve.proofs.Pairs.{Solves, SolvesPlainly}
-use Rattle.radiosity_solve.proofs.Unique.{IsBelowEquations}
 
 -- ---- rounding to whole multiples of s
 

@@ -5,3 +5,6 @@ pub mod Elimination
 pub mod Unique
 pub mod Claims
 pub mod Rate
+pub mod Signed
+pub mod Over
+pub mod Fractions

@@ -14,7 +14,7 @@ pub record SolvesPlainly (n q : ℕ) (k : ℕ → ℕ → ℕ) (e : ℕ → ℕ)
   pub positive : 0 < m
   pub row : (i : ℕ) → i < n → q * h i ≡ m * e i + total n (λ j. k i j * h j)
 
-pub none : ℕ → ℕ
+unfoldable pub none : ℕ → ℕ
 none i = 0
 
 total-none : (n : ℕ) (k : ℕ → ℕ) → total n (λ j. k j * none j) ≡ 0

@@ -2,6 +2,7 @@
 use Rattle.std.proofs.Common.{ℕ, ◌+◌, ◌*◌, ◌<◌, ◌≤◌, ◌≡◌, ap, arith}
 use Rattle.std.proofs.Math.Nat.{mul-le-mul_left, le_of_mul-le-mul_left}
 use Rattle.interval_system.specs.Whole.{total, IsBelowOne}
+use Rattle.radiosity_solve.specs.Laws.{IsBelowEquations}
 use Rattle.radiosity_solve.proofs.Sums.{total-le, total-mix, total-times, total-scale}
 use Rattle.radiosity_solve.proofs.Maximum.{at_most}
 use Rattle.radiosity_solve.proofs.Pairs.{Solves, SolvesPlainly}
@@ -26,10 +27,6 @@ not_negative n q k e f m a b below light s =
     at_most n q k b a below (λ i l. omega (arith, s.row i l, mul-le-mul_left m (light i l)))
 
 -- ---- two systems, the first with coefficients and light at most those of the second
-
-pub record IsBelowEquations (n q : ℕ) (k : ℕ → ℕ → ℕ) (e : ℕ → ℕ) (q' : ℕ) (k' : ℕ → ℕ → ℕ) (e' : ℕ → ℕ) : Type 0 where
-  pub coefficient : (i j : ℕ) → i < n → j < n → k i j * q' ≤ k' i j * q
-  pub light : (i : ℕ) → i < n → e i * q' ≤ e' i * q
 
 larger-row : (n q q' : ℕ) (k k' c : ℕ → ℕ) → ((j : ℕ) → j < n → k j * q' ≤ k' j * q)
     → q' * total n (λ j. k j * c j) ≤ q * total n (λ j. k' j * c j)
