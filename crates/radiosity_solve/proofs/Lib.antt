@@ -8,3 +8,4 @@ pub mod Rate
 pub mod Signed
 pub mod Over
 pub mod Fractions
+pub mod Steps

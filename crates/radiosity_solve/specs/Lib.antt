@@ -1,2 +1,5 @@
 pub mod Shown
 pub mod Laws
+pub mod Bounds
+pub mod SolveFault
+pub mod Turn

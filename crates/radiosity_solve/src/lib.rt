@@ -1,2 +1,8 @@
-//! Bounds of the solution of an interval system.
+//! Bounds of the solution of an interval system: from below by an iteration that starts at 0, from above by one that starts at
+//! 2^90 ticks, each shown by one multiplication.
 #![tactic(auto)]
+
+mod fault;
+mod turn;
+
+pub use fault::SolveFault;
