@@ -9,3 +9,5 @@ pub mod Signed
 pub mod Over
 pub mod Fractions
 pub mod Steps
+pub mod Mild
+pub mod States

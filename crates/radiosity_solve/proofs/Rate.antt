@@ -9,10 +9,10 @@ use Rattle.radiosity_solve.proofs.Pairs.{SolvesPlainly}
 use Rattle.radiosity_solve.proofs.Claims.{downs-near, ups-near}
 
 -- the row sums are at most 255/256
-pub record IsLight (n s : ℕ) (k : ℕ → ℕ → ℕ) : Type 0 where
+pub record IsMild (n s : ℕ) (k : ℕ → ℕ → ℕ) : Type 0 where
   pub row : (i : ℕ) → i < n → 256 * total n (k i) ≤ 255 * s
 
-pub light-below : (n s : ℕ) (k : ℕ → ℕ → ℕ) → 0 < s → IsLight n s k → IsBelowOne n s k
+pub light-below : (n s : ℕ) (k : ℕ → ℕ → ℕ) → 0 < s → IsMild n s k → IsBelowOne n s k
 light-below n s k p b = record { row = λ i l. omega (arith, b.row i l) }
 
 total-shift : (n c x d : ℕ) (k f : ℕ → ℕ) → total n (λ j. k j * (c * f j + x * d)) ≡ c * total n (λ j. k j * f j) + x * d * total n k
@@ -21,7 +21,7 @@ total-shift (suc n) c x d k f = omega (arith, total-shift n c x d k f)
 
 -- ---- where a turn changes no value by more than d ticks
 
-pub upper_by_change : (n s : ℕ) (hi : ℕ → ℕ → ℕ) (dhi : ℕ → ℕ) (m : ℕ) (h x : ℕ → ℕ) (d : ℕ) → 0 < s → IsLight n s hi
+pub upper_by_change : (n s : ℕ) (hi : ℕ → ℕ → ℕ) (dhi : ℕ → ℕ) (m : ℕ) (h x : ℕ → ℕ) (d : ℕ) → 0 < s → IsMild n s hi
     → SolvesPlainly n s hi dhi m h → ((i : ℕ) → i < n → x i ≤ upper_sum n s hi dhi x i + d)
     → (i : ℕ) → i < n → m * x i ≤ s * h i + m * (256 * (n + d))
 upper_by_change n s hi dhi m h x d p light t change =
@@ -32,7 +32,7 @@ upper_by_change n s hi dhi m h x d p light t change =
       omega (arith, total-shift n s m (256 * (n + d)) (hi i) h, total-times n m (hi i) x,
         ap (λ (z : ℕ). s * z) (t.row i l), mul-le-mul_left m turned, mul-le-mul_left (m * (n + d)) (light.row i l)))
 
-pub lower_by_change : (n s : ℕ) (lo : ℕ → ℕ → ℕ) (dlo : ℕ → ℕ) (m : ℕ) (h x : ℕ → ℕ) (d : ℕ) → 0 < s → IsLight n s lo
+pub lower_by_change : (n s : ℕ) (lo : ℕ → ℕ → ℕ) (dlo : ℕ → ℕ) (m : ℕ) (h x : ℕ → ℕ) (d : ℕ) → 0 < s → IsMild n s lo
     → SolvesPlainly n s lo dlo m h → ((i : ℕ) → i < n → lower_sum n s lo dlo x i ≤ x i + d)
     → (i : ℕ) → i < n → s * h i ≤ m * x i + m * (256 * (n + d))
 lower_by_change n s lo dlo m h x d p light t change =
@@ -45,7 +45,7 @@ lower_by_change n s lo dlo m h x d p light t change =
 
 -- ---- a turn brings a vector nearer: where c * m times its distance was at most m * e, that of the next is at most (255 e + 256 c n) / 256
 
-pub upper_turn : (n s : ℕ) (hi : ℕ → ℕ → ℕ) (dhi : ℕ → ℕ) (m : ℕ) (h x : ℕ → ℕ) (c e : ℕ) → 0 < s → IsLight n s hi
+pub upper_turn : (n s : ℕ) (hi : ℕ → ℕ → ℕ) (dhi : ℕ → ℕ) (m : ℕ) (h x : ℕ → ℕ) (c e : ℕ) → 0 < s → IsMild n s hi
     → SolvesPlainly n s hi dhi m h → ((i : ℕ) → i < n → c * (m * x i) ≤ c * (s * h i) + m * e)
     → (i : ℕ) → i < n → 256 * c * (m * upper_sum n s hi dhi x i) ≤ 256 * c * (s * h i) + m * (255 * e + 256 * c * n)
 upper_turn n s hi dhi m h x c e p light t near i l =
@@ -56,7 +56,7 @@ upper_turn n s hi dhi m h x c e p light t near i l =
     le_of_mul-le-mul_left {k = s} (omega (arith, ap (λ (z : ℕ). 256 * c * s * z) (t.row i l), mul-le-mul_left 256 sent,
       mul-le-mul_left (256 * c * m) (ups-near n s (hi i) x p), mul-le-mul_left (m * e) (light.row i l))) p
 
-pub lower_turn : (n s : ℕ) (lo : ℕ → ℕ → ℕ) (dlo : ℕ → ℕ) (m : ℕ) (h x : ℕ → ℕ) (c e : ℕ) → 0 < s → IsLight n s lo
+pub lower_turn : (n s : ℕ) (lo : ℕ → ℕ → ℕ) (dlo : ℕ → ℕ) (m : ℕ) (h x : ℕ → ℕ) (c e : ℕ) → 0 < s → IsMild n s lo
     → SolvesPlainly n s lo dlo m h → ((i : ℕ) → i < n → c * (s * h i) ≤ c * (m * x i) + m * e)
     → (i : ℕ) → i < n → 256 * c * (s * h i) ≤ 256 * c * (m * lower_sum n s lo dlo x i) + m * (255 * e + 256 * c * n)
 lower_turn n s lo dlo m h x c e p light t near i l =

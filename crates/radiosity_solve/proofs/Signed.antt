@@ -12,7 +12,7 @@ use Rattle.radiosity_solve.proofs.Unique.{one_solution, not_negative, compared}
 
 -- ---- products with a whole number that has no sign
 
-times-parts : (k : ℕ) (z : ℤ) → up (pos k *ℤ z) + k * down z ≡ down (pos k *ℤ z) + k * up z
+pub times-parts : (k : ℕ) (z : ℤ) → up (pos k *ℤ z) + k * down z ≡ down (pos k *ℤ z) + k * up z
 times-parts k (pos n) = omega (arith, ints)
 times-parts k (negsuc n) = omega (arith, ints)
 

@@ -2,7 +2,10 @@
 //! 2^90 ticks, each shown by one multiplication.
 #![tactic(auto)]
 
+mod bounds;
 mod fault;
+mod side;
 mod turn;
 
+pub use bounds::{Bounds, solve};
 pub use fault::SolveFault;
