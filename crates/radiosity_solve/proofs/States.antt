@@ -1,6 +1,6 @@
 -- What holds of the iterates after each turn, and of the last.
 use Rattle.std.proofs.Common.{ℕ, zero, suc, ◌+◌, ◌-◌, ◌*◌, ◌/◌, ◌^◌, ◌<◌, ◌≤◌, ◌≡◌, refl, sym, ap, ◌∙◌, List, length, get_or, All, replicate, arith, add-one, lit≤}
-use Rattle.std.proofs.lemmas.List.{get_or-replicate}
+use Rattle.std.proofs.lemmas.List.{get_or-replicate, length-replicate}
 use Rattle.std.specs.Prelude.{ℤ, pos, ◌*ℤ◌, ◌≤ℤ◌}
 use Rattle.std.proofs.Math.Nat.{mul-le-mul_left, le_of_mul-le-mul_left, pow-suc, one-le-pow}
 use Rattle.std.proofs.lemmas.List.Elements.{All-get_or, All-from_get_or}
@@ -413,3 +413,21 @@ answers_in_order s lower upper a low high = record {
     at = in_order (length s.rows) 68719476736 (low_weight s) (high_weight s) (low_direct s) (high_direct s) (tick_at lower) (tick_at upper) (omega arith)
       (light-below (length s.rows) 68719476736 (high_weight s) (omega arith) a.high) a.ordered a.ordered_light low.shown high.shown;
   }
+
+-- ---- the lists with which the iterations begin
+
+pub start_size : (n : ℕ) (x : List Tick) (t : Tick) → x ≡ replicate n t → length x ≡ n
+start_size n x t is = ap (λ (xs : List Tick). length xs) is ∙ length-replicate n t
+
+start-ends : (n v : ℕ) (x : List Tick) → v ≤ 2 ^ 90 → x ≡ replicate n (record { 0 = pos v }) → All IsEnd x
+start-ends n v x h is =
+    All-from_get_or IsEnd x no_tick
+    (λ i l.
+      let inside : i < n = omega (arith, start_size n x (record { 0 = pos v }) is) in
+      rw is (rw (get_or-replicate n i (record { 0 = pos v }) no_tick inside) (end-of v h)))
+
+pub lower_starts : (n : ℕ) (x : List Tick) → x ≡ replicate n (record { 0 = pos 0 }) → All IsEnd x
+lower_starts n x is = start-ends n 0 x (lit≤ tt) is
+
+pub upper_starts : (n : ℕ) (x : List Tick) → x ≡ replicate n (record { 0 = pos (2 ^ 90) }) → All IsEnd x
+upper_starts n x is = start-ends n (2 ^ 90) x (lit≤ tt) is
