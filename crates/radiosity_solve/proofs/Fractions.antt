@@ -19,25 +19,25 @@ use Rattle.radiosity_solve.proofs.Over.{product-positive, divides-product, over-
 -- ---- the solution is that of the elimination in whole numbers
 
 -- the whole numbers of equations in fractions
-whole_k : (n : ℕ) (k : ℕ → ℕ → Fraction) (d : ℕ → Fraction) → ℕ → ℕ → ℕ
+pub whole_k : (n : ℕ) (k : ℕ → ℕ → Fraction) (d : ℕ → Fraction) → ℕ → ℕ → ℕ
 whole_k n k d i j = over (common_denominator n k d) (k i j)
 
-whole_d : (n : ℕ) (k : ℕ → ℕ → Fraction) (d : ℕ → Fraction) → ℕ → ℕ
+pub whole_d : (n : ℕ) (k : ℕ → ℕ → Fraction) (d : ℕ → Fraction) → ℕ → ℕ
 whole_d n k d i = over (common_denominator n k d) (d i)
 
-whole_over : (n : ℕ) (k : ℕ → ℕ → Fraction) (d : ℕ → Fraction) → IsOver n (common_denominator n k d) (whole_k n k d) (whole_d n k d) k d
+pub whole_over : (n : ℕ) (k : ℕ → ℕ → Fraction) (d : ℕ → Fraction) → IsOver n (common_denominator n k d) (whole_k n k d) (whole_d n k d) k d
 unfolding whole_k whole_d
 whole_over n k d = is_over n k d
 
-solution-is : (n : ℕ) (k : ℕ → ℕ → Fraction) (d : ℕ → Fraction) (i : ℕ)
+pub solution-is : (n : ℕ) (k : ℕ → ℕ → Fraction) (d : ℕ → Fraction) (i : ℕ)
     → solution n k d i ≡ ratio (numerator n (common_denominator n k d) (whole_k n k d) (whole_d n k d) i) (denominator n (common_denominator n k d) (whole_k n k d))
 unfolding solution whole_k whole_d
 solution-is n k d i = refl
 
-whole_below : (n : ℕ) (k : ℕ → ℕ → Fraction) (d : ℕ → Fraction) → RowsBelowOne n k → IsBelowOne n (common_denominator n k d) (whole_k n k d)
+pub whole_below : (n : ℕ) (k : ℕ → ℕ → Fraction) (d : ℕ → Fraction) → RowsBelowOne n k → IsBelowOne n (common_denominator n k d) (whole_k n k d)
 whole_below n k d b = rows_over n (common_denominator n k d) (whole_k n k d) (whole_d n k d) k d (whole_over n k d) b
 
-whole_solution : (n : ℕ) (k : ℕ → ℕ → Fraction) (d : ℕ → Fraction) → RowsBelowOne n k
+pub whole_solution : (n : ℕ) (k : ℕ → ℕ → Fraction) (d : ℕ → Fraction) → RowsBelowOne n k
     → SolvesPlainly n (common_denominator n k d) (whole_k n k d) (whole_d n k d) (denominator n (common_denominator n k d) (whole_k n k d))
         (numerator n (common_denominator n k d) (whole_k n k d) (whole_d n k d))
 whole_solution n k d b = eliminated n (common_denominator n k d) (whole_k n k d) (whole_d n k d) (whole_below n k d b)

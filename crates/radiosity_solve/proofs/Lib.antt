@@ -11,3 +11,4 @@ pub mod Fractions
 pub mod Steps
 pub mod Mild
 pub mod States
+pub mod Compose

@@ -3,3 +3,4 @@ pub mod Laws
 pub mod Bounds
 pub mod SolveFault
 pub mod Turn
+pub mod Composition

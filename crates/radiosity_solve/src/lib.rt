@@ -4,6 +4,7 @@
 
 mod bounds;
 mod fault;
+pub mod laws;
 mod side;
 mod turn;
 
