@@ -10,3 +10,6 @@ mod turn;
 
 pub use bounds::{Bounds, solve};
 pub use fault::SolveFault;
+
+#[cfg(test)]
+mod tests;
