@@ -28,9 +28,9 @@ upper_light s j = solution s.patches (λ i j. (s.patch_coefficient i j).hi) (λ 
 -- the value at point g
 unfoldable pub value : Lit → ℕ → Interval
 value s g = record {
-    lo = value_by s.patches (s.direct g).lo (λ j. (s.coefficient g j).lo) (λ j. lower_light s j -ᶠ s.move);
-    hi = value_by s.patches (s.direct g).hi (λ j. (s.coefficient g j).hi) (λ j. upper_light s j +ᶠ s.move);
-  }
+  lo = value_by s.patches (s.direct g).lo (λ j. (s.coefficient g j).lo) (λ j. lower_light s j -ᶠ s.move);
+  hi = value_by s.patches (s.direct g).hi (λ j. (s.coefficient g j).hi) (λ j. upper_light s j +ᶠ s.move);
+}
 
 -- the values at all points, of which the average and the uniformity are taken
 unfoldable pub grid : Lit → Grid

@@ -1,7 +1,7 @@
 -- Equations and lit scenes, computed. The values are those of the equations solved by hand.
-use Rattle.std.specs.Prelude.{ℕ, ◌≡◌, ◌*◌, ◌/◌, ◌==◌, ◌&&◌, Bool, true, false, refl, if◌then◌else◌}
-use Rattle.fx_base.specs.Fraction.{Fraction, ratio, whole, at_most, half_power, ◌+ᶠ◌, ◌-ᶠ◌, ◌*ᶠ◌, ◌/ᶠ◌, sum_to}
-use Rattle.fx_base.specs.Interval.{Interval, exact}
+use Rattle.std.specs.Prelude.{ℕ, ◌≡◌, ◌*◌, ◌/◌, ◌==◌, ◌&&◌, true, false, refl, if◌then◌else◌}
+use Rattle.fx_base.specs.Fraction.{Fraction, ratio, whole, at_most, ◌+ᶠ◌, ◌-ᶠ◌, ◌*ᶠ◌, ◌/ᶠ◌, sum_to}
+use Rattle.fx_base.specs.Interval.{exact}
 use Rattle.interval_system.specs.Whole.{reduced, reduced_light, denominator, numerator}
 use Rattle.interval_system.specs.Equations.{value_by, product_to, common_denominator, over, solution}
 use Rattle.interval_system.specs.Lit.{Lit, lower_light, upper_light, value, grid}
@@ -40,15 +40,15 @@ cube_lit = refl
 scene : Lit
 unfolding all_of_it
 scene = record {
-    patches = 1;
-    patch_coefficient = λ i j. exact (ratio 1 2);
-    patch_direct = λ i. record { lo = whole 1; hi = whole 2 };
-    points = 2;
-    covered = λ g. if g == 0 then true else false;
-    coefficient = λ g j. exact (ratio 1 2);
-    direct = λ g. exact (whole 3);
-    move = whole 1;
-  }
+  patches = 1;
+  patch_coefficient = λ i j. exact (ratio 1 2);
+  patch_direct = λ i. record { lo = whole 1; hi = whole 2 };
+  points = 2;
+  covered = λ g. if g == 0 then true else false;
+  coefficient = λ g j. exact (ratio 1 2);
+  direct = λ g. exact (whole 3);
+  move = whole 1;
+}
 
 point_low : (value scene 1).lo.num * 2 ≡ 7 * (value scene 1).lo.den
 unfolding all_of_it scene

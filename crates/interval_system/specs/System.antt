@@ -1,5 +1,5 @@
 -- What a system of intervals holds: rows of weights, and a span of direct light for each row, all in ticks of 2^-36.
-use Rattle.std.specs.Prelude.{ℕ, ◌≡◌, ◌<◌, ◌≤◌, ◌^◌, List, [], length, sum_by, slice_index_or, All, ℤ, pos, ◌≤ℤ◌}
+use Rattle.std.specs.Prelude.{ℕ, ◌≡◌, ◌<◌, ◌≤◌, ◌^◌, List, [], length, sum_by, slice_index_or, All, pos, ◌≤ℤ◌}
 use Rattle.fx_base.specs.declared.Weight.{Weight}
 use Rattle.fx_base.specs.Ends.{Ends}
 use Rattle.fx_base.specs.Units.{natural}

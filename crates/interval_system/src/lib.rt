@@ -6,3 +6,6 @@ mod system;
 
 pub use row::Row;
 pub use system::{Heavy, IntervalSystem};
+
+#[cfg(test)]
+mod tests;

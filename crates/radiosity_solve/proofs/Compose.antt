@@ -1,15 +1,12 @@
 -- Claims shown in ticks meet the solutions of the equations in fractions that the ticks enclose.
-use Rattle.std.proofs.Common.{ℕ, ◌+◌, ◌*◌, ◌<◌, ◌≤◌, ◌≡◌, ap, List, length, arith}
-use Rattle.std.proofs.Math.Nat.{mul-le-mul_left, le_of_mul-le-mul_left}
-use Rattle.fx_base.specs.declared.Tick.{Tick}
-use Rattle.fx_base.specs.Fraction.{Fraction, ◌≤ᶠ◌, ◌+ᶠ◌, ratio}
+use Rattle.std.proofs.Common.{ℕ, ◌+◌, ◌*◌, ◌<◌, ◌≤◌, length, arith}
+use Rattle.fx_base.specs.Fraction.{◌≤ᶠ◌, ratio}
 use Rattle.fx_base.specs.Units.{ticks}
-use Rattle.fx_base.proofs.Order.{le_trans_f, add_le_f, le_refl_f, le_of_eq_f, ge_of_eq_f}
-use Rattle.fx_base.proofs.Ratios.{ratio_le, le_ratio, ratio_num, ratio_den}
-use Rattle.interval_system.specs.Whole.{IsBelowOne, denominator, numerator}
-use Rattle.interval_system.specs.Equations.{RowsBelowOne, common_denominator, solution, IsOver}
-use Rattle.interval_system.specs.System.{System, IsSystem, NoneHeavy, low_weight, high_weight, low_direct, high_direct}
-use Rattle.radiosity_solve.specs.Shown.{IsShownLower, IsShownUpper}
+use Rattle.fx_base.proofs.Order.{le_trans_f, add_le_f, le_refl_f}
+use Rattle.fx_base.proofs.Ratios.{ratio_num, ratio_den}
+use Rattle.interval_system.specs.Whole.{denominator, numerator}
+use Rattle.interval_system.specs.Equations.{common_denominator}
+use Rattle.interval_system.specs.System.{low_weight, high_weight, low_direct, high_direct}
 use Rattle.radiosity_solve.specs.Bounds.{tick_at}
 use Rattle.radiosity_solve.specs.Composition.{LowerIsBelow, UpperIsAbove, UpperIsWithin, LowerIsWithin, RowsAreBelowOne, ShownClaimHolds}
 use Rattle.radiosity_solve.proofs.Pairs.{SolvesPlainly, none, plain-solves}
@@ -38,10 +35,10 @@ lower_below n k d lo dlo lower b weights lights shown i l =
     let h : ℕ → ℕ = numerator n q (whole_k n k d) (whole_d n k d) in
     let s : SolvesPlainly n q (whole_k n k d) (whole_d n k d) m h = whole_solution n k d b in
     let holds : 68719476736 * 0 + m * lower i ≤ 68719476736 * h i =
-      lower_holds n 68719476736 lo dlo lower q (whole_k n k d) (whole_d n k d) m h none (omega arith) (whole_below n k d b)
-      (below_over n 68719476736 lo dlo (λ i j. ticks (lo i j)) (λ i. ticks (dlo i)) q (whole_k n k d) (whole_d n k d) k d
-        (ticks_over n lo dlo) (whole_over n k d) weights lights)
-      shown (plain-solves n q (whole_k n k d) (whole_d n k d) m h s) i l in
+    lower_holds n 68719476736 lo dlo lower q (whole_k n k d) (whole_d n k d) m h none (omega arith) (whole_below n k d b)
+    (below_over n 68719476736 lo dlo (λ i j. ticks (lo i j)) (λ i. ticks (dlo i)) q (whole_k n k d) (whole_d n k d) k d
+    (ticks_over n lo dlo) (whole_over n k d) weights lights)
+    shown (plain-solves n q (whole_k n k d) (whole_d n k d) m h s) i l in
     rw (solution-is n k d i) (ticks-below-ratio (lower i) (h i) m s.positive (omega arith))
 
 pub upper_above : UpperIsAbove
@@ -52,10 +49,10 @@ upper_above n k d hi dhi upper b weights lights shown i l =
     let h : ℕ → ℕ = numerator n q (whole_k n k d) (whole_d n k d) in
     let s : SolvesPlainly n q (whole_k n k d) (whole_d n k d) m h = whole_solution n k d b in
     let holds : 68719476736 * h i ≤ 68719476736 * 0 + m * upper i =
-      upper_holds n 68719476736 hi dhi upper q (whole_k n k d) (whole_d n k d) m h none (omega arith) (whole_below n k d b)
-      (below_over n q (whole_k n k d) (whole_d n k d) k d 68719476736 hi dhi (λ i j. ticks (hi i j)) (λ i. ticks (dhi i))
-        (whole_over n k d) (ticks_over n hi dhi) weights lights)
-      shown (plain-solves n q (whole_k n k d) (whole_d n k d) m h s) i l in
+    upper_holds n 68719476736 hi dhi upper q (whole_k n k d) (whole_d n k d) m h none (omega arith) (whole_below n k d b)
+    (below_over n q (whole_k n k d) (whole_d n k d) k d 68719476736 hi dhi (λ i j. ticks (hi i j)) (λ i. ticks (dhi i))
+    (whole_over n k d) (ticks_over n hi dhi) weights lights)
+    shown (plain-solves n q (whole_k n k d) (whole_d n k d) m h s) i l in
     rw (solution-is n k d i) (ratio-below-ticks (upper i) (h i) m s.positive (omega arith))
 
 -- ---- where they are near
@@ -81,5 +78,5 @@ shown_claim_holds s lower upper y light low high =
       below = below_every s lower a low;
       above = above_every s upper a high;
       in_order = in_order (length s.rows) 68719476736 (low_weight s) (high_weight s) (low_direct s) (high_direct s) (tick_at lower) (tick_at upper) (omega arith)
-        (light-below (length s.rows) 68719476736 (high_weight s) (omega arith) a.high) a.ordered a.ordered_light low high;
+          (light-below (length s.rows) 68719476736 (high_weight s) (omega arith) a.high) a.ordered a.ordered_light low high;
     }

@@ -1,9 +1,8 @@
 -- The elimination solves: its denominator is positive and each row of the equations holds.
-use Rattle.std.proofs.Common.{ℕ, zero, suc, ◌+◌, ◌-◌, ◌*◌, ◌<◌, ◌≤◌, ◌≡◌, refl, ap, inl, inr, arith, nat_lt, true, false, if◌then◌else◌}
+use Rattle.std.proofs.Common.{ℕ, zero, suc, ◌+◌, ◌*◌, ◌<◌, ◌≤◌, ◌≡◌, ap, inl, inr, arith}
 use Rattle.std.proofs.Math.Nat.{mul-le-mul_left, mul-pos}
 use Rattle.std.proofs.lemmas.Bool.{cases_lt, lt-ltb, le-ltb}
 use Rattle.interval_system.specs.Whole.{total, IsBelowOne, rest, reduced, reduced_light, denominator, numerator}
-use Rattle.radiosity_solve.proofs.Sums.{total-same, total-mix, at-le-total}
 use Rattle.radiosity_solve.proofs.Pairs.{SolvesPlainly}
 
 -- ---- the equations without the last patch
@@ -34,11 +33,11 @@ reduced-row p q k i = row p (rest p q k) (k i p) (k i) (k p) where
 
 pub reduced-below : (p q : ℕ) (k : ℕ → ℕ → ℕ) → IsBelowOne (suc p) q k → IsBelowOne p (q * rest p q k) (reduced p q k)
 reduced-below p q k b = record {
-    row = λ i l.
+  row = λ i l.
       let own : total p (k p) + k p p < q = b.row p (omega arith) in
       let other : total p (k i) + k i p < q = b.row i (omega arith) in
       rw (reduced-row p q k i) (below-row (rest p q k) (k i p) q (total p (k i)) (total p (k p)) (rest-positive p q k b) other (omega arith));
-  }
+}
 
 -- ---- its solution extends to the last patch
 
@@ -60,22 +59,29 @@ extends : (p q : ℕ) (k : ℕ → ℕ → ℕ) (e : ℕ → ℕ) (m : ℕ) (h g
     → SolvesPlainly (suc p) q k e (m * rest p q k) g
 unfolding reduced_light
 extends p q k e m h g b s old new = record {
-    positive = mul-pos s.positive (rest-positive p q k b);
-    row = λ i l. elim (cases_lt i p) [
-        inl w ↦
-          let row : q * rest p q k * h i ≡ m * (e i * rest p q k + k i p * e p)
-                + (rest p q k * total p (λ j. k i j * h j) + k i p * total p (λ j. k p j * h j))
-              = rw (← reduced-total p q k i h) (s.row i w) in
-          omega (arith, scaled p (rest p q k) (k i) g h old, ap (λ (z : ℕ). q * z) (old i w),
-            extended-row q (rest p q k) m (e i) (e p) (k i p) (h i) (total p (λ j. k i j * h j)) (total p (λ j. k p j * h j)) (g p) row new)
-      | inr w ↦
-          let is : i ≡ p = omega arith in
-          let own : total p (k p) + k p p < q = b.row p (omega arith) in
-          let whole : rest p q k + k p p ≡ q = omega arith in
-          rw is (omega (arith, scaled p (rest p q k) (k p) g h old,
-            last-row q (rest p q k) (k p p) m (e p) (total p (λ j. k p j * h j)) (g p) whole new))
-      ];
-  }
+  positive = mul-pos s.positive (rest-positive p q k b);
+  row = λ i l. elim (cases_lt i p) [
+    | inl w ↦
+        let row : q * rest p q k * h i ≡ m * (e i * rest p q k + k i p * e p)
+        + (rest p q k * total p (λ j. k i j * h j) + k i p * total p (λ j. k p j * h j))
+        = rw (← reduced-total p q k i h) (s.row i w) in
+        omega (
+          arith,
+          scaled p (rest p q k) (k i) g h old,
+          ap (λ (z : ℕ). q * z) (old i w),
+          extended-row q (rest p q k) m (e i) (e p) (k i p) (h i) (total p (λ j. k i j * h j)) (total p (λ j. k p j * h j)) (g p) row new,
+        )
+    | inr w ↦
+        let is : i ≡ p = omega arith in
+        let own : total p (k p) + k p p < q = b.row p (omega arith) in
+        let whole : rest p q k + k p p ≡ q = omega arith in
+        rw is (omega (
+          arith,
+          scaled p (rest p q k) (k p) g h old,
+          last-row q (rest p q k) (k p p) m (e p) (total p (λ j. k p j * h j)) (g p) whole new,
+        ))
+  ];
+}
 
 -- ---- the whole elimination
 

@@ -1,19 +1,16 @@
 -- One solution and comparison in fractions, and that claims shown in ticks hold the solutions of the fractions that they enclose.
-use Rattle.std.proofs.Common.{ℕ, zero, suc, ◌+◌, ◌*◌, ◌<◌, ◌≤◌, ◌≡◌, refl, ap, arith}
-use Rattle.std.proofs.Math.Nat.{mul-le-mul_left, eq_of_mul-eq-mul_left, zero-lt-suc}
-use Rattle.fx_base.specs.Fraction.{Fraction, ◌≤ᶠ◌, ◌<ᶠ◌, ◌≈ᶠ◌, ◌+ᶠ◌, ratio, whole, sum_to}
-use Rattle.fx_base.specs.Units.{ticks}
-use Rattle.fx_base.proofs.Order.{le_trans_f, le_lt_trans_f, add_le_f, le_refl_f, le_of_eq_f, ge_of_eq_f}
-use Rattle.fx_base.proofs.Ratios.{ratio_num, ratio_den, ratio_le, le_ratio, ratio_le_ratio}
+use Rattle.std.proofs.Common.{ℕ, ◌+◌, ◌*◌, ◌<◌, ◌≤◌, ◌≡◌, refl, ap, arith}
+use Rattle.std.proofs.Math.Nat.{eq_of_mul-eq-mul_left}
+use Rattle.fx_base.specs.Fraction.{Fraction, ◌≤ᶠ◌, ◌≈ᶠ◌, ratio}
+use Rattle.fx_base.proofs.Order.{le_lt_trans_f}
+use Rattle.fx_base.proofs.Ratios.{ratio_num, ratio_den, ratio_le_ratio}
 use Rattle.fx_base.proofs.Sums.{sum_to_le}
-use Rattle.interval_system.specs.Whole.{total, IsBelowOne, denominator, numerator}
+use Rattle.interval_system.specs.Whole.{IsBelowOne, denominator, numerator}
 use Rattle.interval_system.specs.Equations.{SolvesEquations, RowsBelowOne, product_to, common_denominator, over, solution, IsOver}
-use Rattle.radiosity_solve.specs.Laws.{HasOneFractionSolution, OneFractionSolution, FractionComparison, IsBelowEquations}
-use Rattle.radiosity_solve.specs.Shown.{IsShownLower, IsShownUpper}
-use Rattle.radiosity_solve.proofs.Pairs.{Solves, SolvesPlainly, none, plain-solves}
+use Rattle.radiosity_solve.specs.Laws.{OneFractionSolution, FractionComparison}
+use Rattle.radiosity_solve.proofs.Pairs.{SolvesPlainly, none, plain-solves}
 use Rattle.radiosity_solve.proofs.Elimination.{eliminated}
 use Rattle.radiosity_solve.proofs.Unique.{one_solution, compared}
-use Rattle.radiosity_solve.proofs.Claims.{upper_holds, lower_holds}
 use Rattle.radiosity_solve.proofs.Over.{product-positive, divides-product, over-is, is_over, rows_over, solves_fractions, solves_whole, below_over}
 
 -- ---- the solution is that of the elimination in whole numbers
@@ -39,7 +36,7 @@ whole_below n k d b = rows_over n (common_denominator n k d) (whole_k n k d) (wh
 
 pub whole_solution : (n : ℕ) (k : ℕ → ℕ → Fraction) (d : ℕ → Fraction) → RowsBelowOne n k
     → SolvesPlainly n (common_denominator n k d) (whole_k n k d) (whole_d n k d) (denominator n (common_denominator n k d) (whole_k n k d))
-        (numerator n (common_denominator n k d) (whole_k n k d) (whole_d n k d))
+    (numerator n (common_denominator n k d) (whole_k n k d) (whole_d n k d))
 whole_solution n k d b = eliminated n (common_denominator n k d) (whole_k n k d) (whole_d n k d) (whole_below n k d b)
 
 ratio-over : (h m : ℕ) → 0 < m → h * (ratio h m).den ≡ (ratio h m).num * m
@@ -63,11 +60,11 @@ only-solution n q kk ee k d h o b s i l =
     let t : SolvesPlainly n q kk ee (denominator n q kk) (numerator n q kk ee) = eliminated n q kk ee below in
     let u : SolvesPlainly n q kk ee m (λ j. over m (h j)) = solves_whole n q kk ee k d m (λ j. over m (h j)) h o positive is s in
     let same : denominator n q kk * over m (h i) + m * 0 ≡ denominator n q kk * 0 + m * numerator n q kk ee i =
-      one_solution n q kk ee none m (λ j. over m (h j)) none (denominator n q kk) (numerator n q kk ee) none below
-      (plain-solves n q kk ee m (λ j. over m (h j)) u) (plain-solves n q kk ee (denominator n q kk) (numerator n q kk ee) t) i l in
+    one_solution n q kk ee none m (λ j. over m (h j)) none (denominator n q kk) (numerator n q kk ee) none below
+    (plain-solves n q kk ee m (λ j. over m (h j)) u) (plain-solves n q kk ee (denominator n q kk) (numerator n q kk ee) t) i l in
     record {
       cross = rw (ratio_num (numerator n q kk ee i) (denominator n q kk) t.positive, ratio_den (numerator n q kk ee i) (denominator n q kk) t.positive)
-        (equal-over (denominator n q kk) (over m (h i)) m (numerator n q kk ee i) (h i) positive (omega arith) (is i l));
+          (equal-over (denominator n q kk) (over m (h i)) m (numerator n q kk ee i) (h i) positive (omega arith) (is i l));
     }
 
 pub elimination_solves : (n q : ℕ) (kk : ℕ → ℕ → ℕ) (ee : ℕ → ℕ) (k : ℕ → ℕ → Fraction) (d : ℕ → Fraction) → IsOver n q kk ee k d → RowsBelowOne n k
@@ -80,12 +77,12 @@ elimination_solves n q kk ee k d o b =
 pub has_one_fraction_solution : OneFractionSolution
 unfolding solution
 has_one_fraction_solution n k d b = record {
-    solves = elimination_solves n q (λ i j. over q (k i j)) (λ i. over q (d i)) k d (is_over n k d) b;
-    alone = λ h s i l. only-solution n q (λ i j. over q (k i j)) (λ i. over q (d i)) k d h (is_over n k d) b s i l;
-  }
+  solves = elimination_solves n q (λ i j. over q (k i j)) (λ i. over q (d i)) k d (is_over n k d) b;
+  alone = λ h s i l. only-solution n q (λ i j. over q (k i j)) (λ i. over q (d i)) k d h (is_over n k d) b s i l;
+}
   where
-  q : ℕ
-  q = common_denominator n k d
+    q : ℕ
+    q = common_denominator n k d
 
 -- the elimination over any one denominator gives the solution
 pub solution-over : (n q : ℕ) (kk : ℕ → ℕ → ℕ) (ee : ℕ → ℕ) (k : ℕ → ℕ → Fraction) (d : ℕ → Fraction) → IsOver n q kk ee k d → RowsBelowOne n k
@@ -108,11 +105,11 @@ solutions_ordered n k k' d d' b' weights lights i l =
     let s : SolvesPlainly n q (whole_k n k d) (whole_d n k d) (denominator n q (whole_k n k d)) (numerator n q (whole_k n k d) (whole_d n k d)) = whole_solution n k d b in
     let t : SolvesPlainly n q' (whole_k n k' d') (whole_d n k' d') (denominator n q' (whole_k n k' d')) (numerator n q' (whole_k n k' d') (whole_d n k' d')) = whole_solution n k' d' b' in
     let less : denominator n q' (whole_k n k' d') * numerator n q (whole_k n k d) (whole_d n k d) i
-        ≤ denominator n q' (whole_k n k' d') * 0 + denominator n q (whole_k n k d) * numerator n q' (whole_k n k' d') (whole_d n k' d') i =
-      compared n q (whole_k n k d) (whole_d n k d) (denominator n q (whole_k n k d)) (numerator n q (whole_k n k d) (whole_d n k d)) none
-      q' (whole_k n k' d') (whole_d n k' d') (denominator n q' (whole_k n k' d')) (numerator n q' (whole_k n k' d') (whole_d n k' d')) (whole_below n k d b) o.positive
-      (below_over n q (whole_k n k d) (whole_d n k d) k d q' (whole_k n k' d') (whole_d n k' d') k' d' (whole_over n k d) o weights lights)
-      (plain-solves n q (whole_k n k d) (whole_d n k d) (denominator n q (whole_k n k d)) (numerator n q (whole_k n k d) (whole_d n k d)) s) t i l in
+    ≤ denominator n q' (whole_k n k' d') * 0 + denominator n q (whole_k n k d) * numerator n q' (whole_k n k' d') (whole_d n k' d') i =
+    compared n q (whole_k n k d) (whole_d n k d) (denominator n q (whole_k n k d)) (numerator n q (whole_k n k d) (whole_d n k d)) none
+    q' (whole_k n k' d') (whole_d n k' d') (denominator n q' (whole_k n k' d')) (numerator n q' (whole_k n k' d') (whole_d n k' d')) (whole_below n k d b) o.positive
+    (below_over n q (whole_k n k d) (whole_d n k d) k d q' (whole_k n k' d') (whole_d n k' d') k' d' (whole_over n k d) o weights lights)
+    (plain-solves n q (whole_k n k d) (whole_d n k d) (denominator n q (whole_k n k d)) (numerator n q (whole_k n k d) (whole_d n k d)) s) t i l in
     rw (solution-is n k d i, solution-is n k' d' i)
     (ratio_le_ratio (numerator n q (whole_k n k d) (whole_d n k d) i) (denominator n q (whole_k n k d))
-      (numerator n q' (whole_k n k' d') (whole_d n k' d') i) (denominator n q' (whole_k n k' d')) s.positive t.positive (omega arith))
+    (numerator n q' (whole_k n k' d') (whole_d n k' d') i) (denominator n q' (whole_k n k' d')) s.positive t.positive (omega arith))

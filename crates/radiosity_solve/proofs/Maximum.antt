@@ -14,12 +14,12 @@ row-bound (suc n) k a b d g =
 
 last : (q r d x y : ℕ) → r < q → q * x ≤ q * y + suc d * r → x ≤ y + d
 last q r d x y l h = elim (cases_lt (y + d) x) [
-      inl w ↦
-        let more : y + suc d ≤ x = omega arith in
-        let less : suc r ≤ q = omega arith in
-        absurd (omega (arith, mul-le-mul_left q more, mul-le-mul_left (suc d) less))
-    | inr w ↦ w
-  ]
+  | inl w ↦
+      let more : y + suc d ≤ x = omega arith in
+      let less : suc r ≤ q = omega arith in
+      absurd (omega (arith, mul-le-mul_left q more, mul-le-mul_left (suc d) less))
+  | inr w ↦ w
+]
 
 descend : (n q : ℕ) (k : ℕ → ℕ → ℕ) (a b : ℕ → ℕ) → IsBelowOne n q k
     → ((i : ℕ) → i < n → q * a i + total n (λ j. k i j * b j) ≤ q * b i + total n (λ j. k i j * a j))

@@ -1,10 +1,10 @@
 -- From equations in fractions, each with a denominator of its own, to the same equations in whole numbers over one, and back.
-use Rattle.std.proofs.Common.{ℕ, zero, suc, ◌+◌, ◌*◌, ◌/◌, ◌<◌, ◌≤◌, ◌≡◌, refl, ap, sym, inl, inr, arith}
+use Rattle.std.proofs.Common.{ℕ, zero, suc, ◌+◌, ◌*◌, ◌<◌, ◌≤◌, ◌≡◌, ap, inl, inr, arith}
 use Rattle.std.proofs.Math.Nat.{mul-pos, mul-le-mul_left, eq_of_mul-eq-mul_left, lt_of_mul-lt-mul_left, le_of_mul-le-mul_left, mul-lt-mul_of_pos_left, dvd-mul_left, dvd-mul_right, div-mul_cancel}
 use Rattle.std.proofs.lemmas.Nat.Gcd.{dvd_trans}
 use Rattle.std.specs.Int.{◌∣◌}
 use Rattle.std.proofs.lemmas.Bool.{cases_lt}
-use Rattle.fx_base.specs.Fraction.{Fraction, ◌≤ᶠ◌, ◌<ᶠ◌, ◌≈ᶠ◌, ◌+ᶠ◌, ◌*ᶠ◌, whole, sum_to}
+use Rattle.fx_base.specs.Fraction.{Fraction, ◌≤ᶠ◌, ◌+ᶠ◌, ◌*ᶠ◌, whole, sum_to}
 use Rattle.interval_system.specs.Whole.{total, IsBelowOne}
 use Rattle.interval_system.specs.Equations.{value_by, SolvesEquations, RowsBelowOne, product_to, common_denominator, over, IsOver}
 use Rattle.radiosity_solve.specs.Laws.{IsBelowEquations}
@@ -21,9 +21,9 @@ pub divides-product : (n : ℕ) (f : ℕ → ℕ) (i : ℕ) → i < n → f i �
 unfolding product_to
 divides-product zero f i l = absurd (omega (arith, l))
 divides-product (suc n) f i l = elim (cases_lt i n) [
-      inl w ↦ dvd_trans (f i) {b = product_to n f} {c = product_to n f * f n} (divides-product n f i w) (dvd-mul_right (product_to n f) (f n))
-    | inr w ↦ let e : i ≡ n = omega arith in rw e (dvd-mul_left (f n) (product_to n f))
-  ]
+  | inl w ↦ dvd_trans (f i) {b = product_to n f} {c = product_to n f * f n} (divides-product n f i w) (dvd-mul_right (product_to n f) (f n))
+  | inr w ↦ let e : i ≡ n = omega arith in rw e (dvd-mul_left (f n) (product_to n f))
+]
 
 pub over-is : (q : ℕ) (a : Fraction) → a.den ∣ q → over q a * a.den ≡ a.num * q
 unfolding over
@@ -33,18 +33,19 @@ pub is_over : (n : ℕ) (k : ℕ → ℕ → Fraction) (d : ℕ → Fraction)
     → IsOver n (common_denominator n k d) (λ i j. over (common_denominator n k d) (k i j)) (λ i. over (common_denominator n k d) (d i)) k d
 unfolding common_denominator
 is_over n k d = record {
-    positive = product-positive n (λ i. row i * (d i).den) (λ i. mul-pos (product-positive n (λ j. (k i j).den) (λ j. (k i j).positive)) (d i).positive);
-    coefficient = λ i j l w. over-is q (k i j)
+  positive = product-positive n (λ i. row i * (d i).den) (λ i. mul-pos (product-positive n (λ j. (k i j).den) (λ j. (k i j).positive)) (d i).positive);
+  coefficient = λ i j l w. over-is q (k i j)
       (dvd_trans (k i j).den {b = row i} {c = q} (divides-product n (λ j. (k i j).den) j w)
-        (dvd_trans (row i) {b = row i * (d i).den} {c = q} (dvd-mul_right (row i) (d i).den) (divides-product n (λ i. row i * (d i).den) i l)));
-    light = λ i l. over-is q (d i)
+      (dvd_trans (row i) {b = row i * (d i).den} {c = q} (dvd-mul_right (row i) (d i).den) (divides-product n (λ i. row i * (d i).den) i l)));
+  light = λ i l. over-is q (d i)
       (dvd_trans (d i).den {b = row i * (d i).den} {c = q} (dvd-mul_left (d i).den (row i)) (divides-product n (λ i. row i * (d i).den) i l));
-  }
+}
   where
-  row : ℕ → ℕ
-  row i = product_to n (λ j. (k i j).den)
-  q : ℕ
-  q = product_to n (λ i. product_to n (λ j. (k i j).den) * (d i).den)
+    row : ℕ → ℕ
+    row i = product_to n (λ j. (k i j).den)
+
+    q : ℕ
+    q = product_to n (λ i. product_to n (λ j. (k i j).den) * (d i).den)
 
 -- ---- x over q is the fraction f, where x * f.den ≡ f.num * q: sums, products and equations
 
@@ -79,11 +80,11 @@ pub rows_over : (n q : ℕ) (kk : ℕ → ℕ → ℕ) (ee : ℕ → ℕ) (k : �
     → RowsBelowOne n k → IsBelowOne n q kk
 unfolding whole
 rows_over n q kk ee k d o b = record {
-    row = λ i l. below (total n (kk i)) q (sum_to n (k i)) o.positive (b.row i l).cross (over-sum n q (kk i) (k i) (λ j w. o.coefficient i j l w));
-  }
+  row = λ i l. below (total n (kk i)) q (sum_to n (k i)) o.positive (b.row i l).cross (over-sum n q (kk i) (k i) (λ j w. o.coefficient i j l w));
+}
   where
-  below : (t q : ℕ) (f : Fraction) → 0 < q → f.num * 1 < 1 * f.den → t * f.den ≡ f.num * q → t < q
-  below t q f p h e = lt_of_mul-lt-mul_left f.den (omega (arith, mul-lt-mul_of_pos_left h p))
+    below : (t q : ℕ) (f : Fraction) → 0 < q → f.num * 1 < 1 * f.den → t * f.den ≡ f.num * q → t < q
+    below t q f p h e = lt_of_mul-lt-mul_left f.den (omega (arith, mul-lt-mul_of_pos_left h p))
 
 pub over-value : (n q : ℕ) (kk : ℕ → ℕ → ℕ) (ee : ℕ → ℕ) (k : ℕ → ℕ → Fraction) (d : ℕ → Fraction) (m : ℕ) (hh : ℕ → ℕ) (h : ℕ → Fraction)
     → IsOver n q kk ee k d → ((j : ℕ) → j < n → hh j * (h j).den ≡ (h j).num * m) → (i : ℕ) → i < n
@@ -100,20 +101,20 @@ scaled-over q m x f e = omega (arith, ap (λ (z : ℕ). q * z) e)
 pub solves_fractions : (n q : ℕ) (kk : ℕ → ℕ → ℕ) (ee : ℕ → ℕ) (k : ℕ → ℕ → Fraction) (d : ℕ → Fraction) (m : ℕ) (hh : ℕ → ℕ) (h : ℕ → Fraction)
     → IsOver n q kk ee k d → ((j : ℕ) → j < n → hh j * (h j).den ≡ (h j).num * m) → SolvesPlainly n q kk ee m hh → SolvesEquations n k d h
 solves_fractions n q kk ee k d m hh h o is s = record {
-    row = λ i l. record {
-        cross = same-over (q * m) (q * hh i) (m * ee i + total n (λ j. kk i j * hh j)) (h i).num (h i).den (value_by n (d i) (k i) h).num (value_by n (d i) (k i) h).den
-          (mul-pos o.positive s.positive) (scaled-over q m (hh i) (h i) (is i l)) (over-value n q kk ee k d m hh h o is i l) (s.row i l);
-      };
-  }
+  row = λ i l. record {
+    cross = same-over (q * m) (q * hh i) (m * ee i + total n (λ j. kk i j * hh j)) (h i).num (h i).den (value_by n (d i) (k i) h).num (value_by n (d i) (k i) h).den
+        (mul-pos o.positive s.positive) (scaled-over q m (hh i) (h i) (is i l)) (over-value n q kk ee k d m hh h o is i l) (s.row i l);
+  };
+}
 
 pub solves_whole : (n q : ℕ) (kk : ℕ → ℕ → ℕ) (ee : ℕ → ℕ) (k : ℕ → ℕ → Fraction) (d : ℕ → Fraction) (m : ℕ) (hh : ℕ → ℕ) (h : ℕ → Fraction)
     → IsOver n q kk ee k d → 0 < m → ((j : ℕ) → j < n → hh j * (h j).den ≡ (h j).num * m) → SolvesEquations n k d h → SolvesPlainly n q kk ee m hh
 solves_whole n q kk ee k d m hh h o p is s = record {
-    positive = p;
-    row = λ i l.
+  positive = p;
+  row = λ i l.
       over-same (q * m) (q * hh i) (m * ee i + total n (λ j. kk i j * hh j)) (h i).num (h i).den (value_by n (d i) (k i) h).num (value_by n (d i) (k i) h).den
       (h i).positive (value_by n (d i) (k i) h).positive (scaled-over q m (hh i) (h i) (is i l)) (over-value n q kk ee k d m hh h o is i l) (s.row i l).cross;
-  }
+}
 
 -- smaller fractions, smaller whole numbers
 below-over : (x q a A y q' b B : ℕ) → 0 < A → 0 < B → x * A ≡ a * q → y * B ≡ b * q' → a * B ≤ b * A → x * q' ≤ y * q
@@ -125,8 +126,8 @@ pub below_over : (n q : ℕ) (kk : ℕ → ℕ → ℕ) (ee : ℕ → ℕ) (k : 
     → IsOver n q kk ee k d → IsOver n q' kk' ee' k' d' → ((i j : ℕ) → i < n → j < n → k i j ≤ᶠ k' i j) → ((i : ℕ) → i < n → d i ≤ᶠ d' i)
     → IsBelowEquations n q kk ee q' kk' ee'
 below_over n q kk ee k d q' kk' ee' k' d' o o' weights lights = record {
-    coefficient = λ i j l w. below-over (kk i j) q (k i j).num (k i j).den (kk' i j) q' (k' i j).num (k' i j).den
+  coefficient = λ i j l w. below-over (kk i j) q (k i j).num (k i j).den (kk' i j) q' (k' i j).num (k' i j).den
       (k i j).positive (k' i j).positive (o.coefficient i j l w) (o'.coefficient i j l w) (weights i j l w).cross;
-    light = λ i l. below-over (ee i) q (d i).num (d i).den (ee' i) q' (d' i).num (d' i).den
+  light = λ i l. below-over (ee i) q (d i).num (d i).den (ee' i) q' (d' i).num (d' i).den
       (d i).positive (d' i).positive (o.light i l) (o'.light i l) (lights i l).cross;
-  }
+}

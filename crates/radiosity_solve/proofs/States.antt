@@ -1,23 +1,22 @@
 -- What holds of the iterates after each turn, and of the last.
-use Rattle.std.proofs.Common.{ℕ, zero, suc, ◌+◌, ◌-◌, ◌*◌, ◌/◌, ◌^◌, ◌<◌, ◌≤◌, ◌≡◌, refl, sym, ap, ◌∙◌, List, length, get_or, All, replicate, arith, add-one, lit≤}
+use Rattle.std.proofs.Common.{ℕ, ◌+◌, ◌*◌, ◌^◌, ◌<◌, ◌≤◌, ◌≡◌, refl, ap, ◌∙◌, List, length, get_or, All, replicate, arith, add-one, lit≤}
 use Rattle.std.proofs.lemmas.List.{get_or-replicate, length-replicate}
 use Rattle.std.specs.Prelude.{ℤ, pos, ◌*ℤ◌, ◌≤ℤ◌}
 use Rattle.std.proofs.Math.Nat.{mul-le-mul_left, le_of_mul-le-mul_left, pow-suc, one-le-pow}
 use Rattle.std.proofs.lemmas.List.Elements.{All-get_or, All-from_get_or}
 use borrow.Author.Differences.{up, down, ints, at_most_in}
 use Rattle.fx_base.specs.declared.Tick.{Tick}
-use Rattle.fx_base.specs.Fraction.{Fraction, ◌≤ᶠ◌, ◌+ᶠ◌, ratio}
-use Rattle.fx_base.specs.Units.{natural, ticks}
+use Rattle.fx_base.specs.Fraction.{◌≤ᶠ◌, ◌+ᶠ◌, ratio}
+use Rattle.fx_base.specs.Units.{ticks}
 use Rattle.fx_base.proofs.Order.{le_trans_f, add_le_f, le_refl_f, le_of_eq_f, ge_of_eq_f}
 use Rattle.fx_base.proofs.Ratios.{ratio_num, ratio_den}
-use Rattle.interval_system.specs.Whole.{total, IsBelowOne, IsSolution, denominator, numerator}
+use Rattle.interval_system.specs.Whole.{denominator, numerator}
 use Rattle.interval_system.specs.System.{System, low_weight, high_weight, low_direct, high_direct}
 use Rattle.radiosity_solve.specs.Shown.{down_to, up_to, lower_sum, upper_sum, IsShownLower, IsShownUpper}
-use Rattle.radiosity_solve.specs.Laws.{IsBelowEquations}
-use Rattle.radiosity_solve.specs.Bounds.{IsEnd, tick_at, no_tick, IsWithin, IsUniquelySolved, IsBelowEverySolution, IsAboveEverySolution, lower_solution, upper_solution, ten_thousandth, IsLowerAnswer, IsUpperAnswer, IsInOrder}
+use Rattle.radiosity_solve.specs.Bounds.{IsEnd, tick_at, no_tick, IsUniquelySolved, IsBelowEverySolution, IsAboveEverySolution, lower_solution, upper_solution, ten_thousandth, IsLowerAnswer, IsUpperAnswer, IsInOrder}
 use Rattle.radiosity_solve.specs.Turn.{lower_light, upper_light, IsLowerTurn, IsUpperTurn, IsChangedBy}
 use Rattle.radiosity_solve.proofs.Sums.{total-le, total-same, total-scale}
-use Rattle.radiosity_solve.proofs.Pairs.{Solves, SolvesPlainly, none, plain-solves}
+use Rattle.radiosity_solve.proofs.Pairs.{SolvesPlainly, none, plain-solves}
 use Rattle.radiosity_solve.proofs.Elimination.{eliminated}
 use Rattle.radiosity_solve.proofs.Claims.{upper_holds, lower_holds, in_order}
 use Rattle.radiosity_solve.proofs.Rate.{IsMild, light-below, upper_by_change, lower_by_change, upper_turn, lower_turn}
@@ -43,20 +42,29 @@ down-below-up a b h = omega arith
 upper_sum-rises : (n : ℕ) (k : ℕ → ℕ → ℕ) (d x y : ℕ → ℕ) → ((j : ℕ) → j < n → x j ≤ y j) → (i : ℕ)
     → upper_sum n 68719476736 k d x i ≤ upper_sum n 68719476736 k d y i
 upper_sum-rises n k d x y h i =
-    omega (arith, total-le n (λ j. up_to 68719476736 (k i j * x j)) (λ j. up_to 68719476736 (k i j * y j))
-      (λ j w. up-rises (k i j * x j) (k i j * y j) (mul-le-mul_left (k i j) (h j w))))
+    omega (
+      arith,
+      total-le n (λ j. up_to 68719476736 (k i j * x j)) (λ j. up_to 68719476736 (k i j * y j))
+          (λ j w. up-rises (k i j * x j) (k i j * y j) (mul-le-mul_left (k i j) (h j w))),
+    )
 
 lower_sum-rises : (n : ℕ) (k : ℕ → ℕ → ℕ) (d x y : ℕ → ℕ) → ((j : ℕ) → j < n → x j ≤ y j) → (i : ℕ)
     → lower_sum n 68719476736 k d x i ≤ lower_sum n 68719476736 k d y i
 lower_sum-rises n k d x y h i =
-    omega (arith, total-le n (λ j. down_to 68719476736 (k i j * x j)) (λ j. down_to 68719476736 (k i j * y j))
-      (λ j w. down-rises (k i j * x j) (k i j * y j) (mul-le-mul_left (k i j) (h j w))))
+    omega (
+      arith,
+      total-le n (λ j. down_to 68719476736 (k i j * x j)) (λ j. down_to 68719476736 (k i j * y j))
+          (λ j w. down-rises (k i j * x j) (k i j * y j) (mul-le-mul_left (k i j) (h j w))),
+    )
 
 lower-below-upper : (n : ℕ) (k : ℕ → ℕ → ℕ) (d x y : ℕ → ℕ) → ((j : ℕ) → j < n → x j ≤ y j) → (i : ℕ)
     → lower_sum n 68719476736 k d x i ≤ upper_sum n 68719476736 k d y i
 lower-below-upper n k d x y h i =
-    omega (arith, total-le n (λ j. down_to 68719476736 (k i j * x j)) (λ j. up_to 68719476736 (k i j * y j))
-      (λ j w. down-below-up (k i j * x j) (k i j * y j) (mul-le-mul_left (k i j) (h j w))))
+    omega (
+      arith,
+      total-le n (λ j. down_to 68719476736 (k i j * x j)) (λ j. up_to 68719476736 (k i j * y j))
+          (λ j w. down-below-up (k i j * x j) (k i j * y j) (mul-le-mul_left (k i j) (h j w))),
+    )
 
 -- ---- 2^90 ticks everywhere are an upper claim
 
@@ -71,10 +79,15 @@ pub top-shown : (n : ℕ) (k : ℕ → ℕ → ℕ) (d : ℕ → ℕ) → IsMild
     → IsShownUpper n 68719476736 k d top
 unfolding top
 top-shown n k d a light = record {
-    row = λ i l.
-      omega (arith, light i l, a.row i l, total-scale n (2 ^ 54) (k i),
-        total-same n (λ j. up_to 68719476736 (k i j * 2 ^ 90)) (λ j. 2 ^ 54 * k i j) (λ j w. up-top (k i j)));
-  }
+  row = λ i l.
+      omega (
+        arith,
+        light i l,
+        a.row i l,
+        total-scale n (2 ^ 54) (k i),
+        total-same n (λ j. up_to 68719476736 (k i j * 2 ^ 90)) (λ j. 2 ^ 54 * k i j) (λ j w. up-top (k i j)),
+      );
+}
 
 -- ---- powers
 
@@ -101,13 +114,13 @@ error t = 255 ^ t * 2 ^ 90 + 256 ^ t * 524288
 pub record IsUpperState (s : System) (x : List Tick) (t : ℕ) : Type 0 where
   pub shown : IsShownUpper (length s.rows) 68719476736 (high_weight s) (high_direct s) (tick_at x)
   pub near : (i : ℕ) → i < length s.rows →
-    256 ^ t * (denominator (length s.rows) 68719476736 (high_weight s) * tick_at x i)
+      256 ^ t * (denominator (length s.rows) 68719476736 (high_weight s) * tick_at x i)
       ≤ 256 ^ t * (68719476736 * numerator (length s.rows) 68719476736 (high_weight s) (high_direct s) i)
-        + denominator (length s.rows) 68719476736 (high_weight s) * error t
+      + denominator (length s.rows) 68719476736 (high_weight s) * error t
 
 high_solves : (s : System) → AreMild s
     → SolvesPlainly (length s.rows) 68719476736 (high_weight s) (high_direct s) (denominator (length s.rows) 68719476736 (high_weight s))
-        (numerator (length s.rows) 68719476736 (high_weight s) (high_direct s))
+    (numerator (length s.rows) 68719476736 (high_weight s) (high_direct s))
 high_solves s a =
     eliminated (length s.rows) 68719476736 (high_weight s) (high_direct s) (light-below (length s.rows) 68719476736 (high_weight s) (omega arith) a.high)
 
@@ -120,9 +133,13 @@ upper_begins s x a is =
     let at : (i : ℕ) → i < length s.rows → tick_at x i ≡ 2 ^ 90 = λ i l. rw is (replicate-tick (length s.rows) (2 ^ 90) i l) in
     record {
       shown = record {
-          row = λ i l. omega (arith, at i l, (top-shown (length s.rows) (high_weight s) (high_direct s) a.high a.high_light).row i l,
-            upper_sum-rises (length s.rows) (high_weight s) (high_direct s) (tick_at x) (λ j. 2 ^ 90) (λ j w. omega (arith, at j w)) i);
-        };
+        row = λ i l. omega (
+          arith,
+          at i l,
+          (top-shown (length s.rows) (high_weight s) (high_direct s) a.high a.high_light).row i l,
+          upper_sum-rises (length s.rows) (high_weight s) (high_direct s) (tick_at x) (λ j. 2 ^ 90) (λ j w. omega (arith, at j w)) i,
+        );
+      };
       near = λ i l. omega (arith, ap (λ (z : ℕ). denominator (length s.rows) 68719476736 (high_weight s) * z) (at i l));
     }
 
@@ -140,19 +157,22 @@ upper_falls s x y shown t i l = omega (arith, upper_made s x y t i l, shown.row 
 
 pub upper_turned : (s : System) (x y : List Tick) (t : ℕ) → AreMild s → IsUpperState s x t → IsUpperTurn s x y → IsUpperState s y (t + 1)
 upper_turned s x y t a state turn = record {
-    shown = record {
-        row = λ i l. omega (arith, upper_made s x y turn i l,
-          upper_sum-rises (length s.rows) (high_weight s) (high_direct s) (tick_at y) (tick_at x) (λ j w. upper_falls s x y state.shown turn j w) i);
-      };
-    near = λ i l.
+  shown = record {
+    row = λ i l. omega (
+      arith,
+      upper_made s x y turn i l,
+      upper_sum-rises (length s.rows) (high_weight s) (high_direct s) (tick_at y) (tick_at x) (λ j w. upper_falls s x y state.shown turn j w) i,
+    );
+  };
+  near = λ i l.
       let n : ℕ = length s.rows in
       let m : ℕ = denominator n 68719476736 (high_weight s) in
       let h : ℕ → ℕ = numerator n 68719476736 (high_weight s) (high_direct s) in
       rw (upper_made s x y turn i l)
       (nearer (256 ^ t) (255 ^ t) (256 ^ (t + 1)) (255 ^ (t + 1)) m n
-        (m * upper_sum n 68719476736 (high_weight s) (high_direct s) (tick_at x) i) (68719476736 * h i) a.few (next 256 t) (next 255 t)
-        (upper_turn n 68719476736 (high_weight s) (high_direct s) m h (tick_at x) (256 ^ t) (error t) (omega arith) a.high (high_solves s a) state.near i l));
-  }
+      (m * upper_sum n 68719476736 (high_weight s) (high_direct s) (tick_at x) i) (68719476736 * h i) a.few (next 256 t) (next 255 t)
+      (upper_turn n 68719476736 (high_weight s) (high_direct s) m h (tick_at x) (256 ^ t) (error t) (omega arith) a.high (high_solves s a) state.near i l));
+}
 
 end-of : (v : ℕ) → v ≤ 2 ^ 90 → IsEnd (record { 0 = pos v })
 end-of v h = record { low = at_most_in (pos 0) (pos v) (omega arith); high = at_most_in (pos v) (pos (2 ^ 90)) (omega arith) }
@@ -170,8 +190,8 @@ pub upper_in_range : (s : System) (x y : List Tick) → IsShownUpper (length s.r
 upper_in_range s x y shown t x-size y-size ends =
     All-from_get_or IsEnd y no_tick
     (λ i l.
-      let row : i < length s.rows = omega arith in
-      rw (t.row i row) (end-of (upper_light s x i) (omega (arith, upper_light-is s x i, shown.row i row, end-size x i (omega arith) ends))))
+    let row : i < length s.rows = omega arith in
+    rw (t.row i row) (end-of (upper_light s x i) (omega (arith, upper_light-is s x i, shown.row i row, end-size x i (omega arith) ends))))
 
 -- ---- near enough
 
@@ -180,9 +200,9 @@ enough = 6871947
 
 pub record IsNearUpper (s : System) (x : List Tick) : Type 0 where
   pub row : (i : ℕ) → i < length s.rows →
-    denominator (length s.rows) 68719476736 (high_weight s) * tick_at x i
+      denominator (length s.rows) 68719476736 (high_weight s) * tick_at x i
       ≤ 68719476736 * numerator (length s.rows) 68719476736 (high_weight s) (high_direct s) i
-        + denominator (length s.rows) 68719476736 (high_weight s) * 6871947
+      + denominator (length s.rows) 68719476736 (high_weight s) * 6871947
 
 -- after 16,384 turns
 cancel-powers : (c e m x z : ℕ) → 0 < c → e ≤ c * 6871947 → c * x ≤ c * z + m * e → x ≤ z + m * 6871947
@@ -190,11 +210,11 @@ cancel-powers c e m x z p small h = le_of_mul-le-mul_left {k = c} (omega (arith,
 
 pub upper_spent : (s : System) (x : List Tick) → IsUpperState s x 16384 → IsNearUpper s x
 upper_spent s x state = record {
-    row = λ i l. cancel-powers (256 ^ 16384) (255 ^ 16384 * 2 ^ 90 + 256 ^ 16384 * 524288) (denominator (length s.rows) 68719476736 (high_weight s))
+  row = λ i l. cancel-powers (256 ^ 16384) (255 ^ 16384 * 2 ^ 90 + 256 ^ 16384 * 524288) (denominator (length s.rows) 68719476736 (high_weight s))
       (denominator (length s.rows) 68719476736 (high_weight s) * tick_at x i)
       (68719476736 * numerator (length s.rows) 68719476736 (high_weight s) (high_direct s) i)
       (one-le-pow 16384 256 (lit≤ tt)) last-powers (state.near i l);
-  }
+}
 
 -- after a turn of small change
 small-change : (n d m x y z : ℕ) → n ≤ 2048 → d ≤ 16384 → m * x ≤ z + m * (256 * (n + d)) → y ≤ x → m * y ≤ z + m * 6871947
@@ -206,29 +226,29 @@ pub upper_settled : (s : System) (x y : List Tick) (d : ℕ) → AreMild s
     → IsShownUpper (length s.rows) 68719476736 (high_weight s) (high_direct s) (tick_at x)
     → IsUpperTurn s x y → length x ≡ length s.rows → IsChangedBy d x y → d ≤ 16384 → IsNearUpper s y
 upper_settled s x y d a shown t size change small = record {
-    row = λ i l.
+  row = λ i l.
       let n : ℕ = length s.rows in
       let m : ℕ = denominator n 68719476736 (high_weight s) in
       let h : ℕ → ℕ = numerator n 68719476736 (high_weight s) (high_direct s) in
       small-change n d m (tick_at x i) (tick_at y i) (68719476736 * h i) a.few small
       (upper_by_change n 68719476736 (high_weight s) (high_direct s) m h (tick_at x) d (omega arith) a.high (high_solves s a)
-        (λ j w. omega (arith, change.down j (omega arith), upper_made s x y t j w)) i l)
+      (λ j w. omega (arith, change.down j (omega arith), upper_made s x y t j w)) i l)
       (upper_falls s x y shown t i l);
-  }
+}
 
 -- ---- the answer from above
 
 ticks-near : (t h m : ℕ) → 0 < m → m * t ≤ 68719476736 * h + m * 6871947 → ticks t ≤ᶠ (ratio h m +ᶠ ratio 1 10000)
 unfolding ticks ◌+ᶠ◌
 ticks-near t h m p e = record {
-    cross = rw (ratio_num h m p, ratio_den h m p, ratio_num 1 10000 (lit≤ tt), ratio_den 1 10000 (lit≤ tt)) (omega (arith, e));
-  }
+  cross = rw (ratio_num h m p, ratio_den h m p, ratio_num 1 10000 (lit≤ tt), ratio_den 1 10000 (lit≤ tt)) (omega (arith, e));
+}
 
 solution-near : (t h m : ℕ) → 0 < m → 68719476736 * h ≤ m * t + m * 6871947 → ratio h m ≤ᶠ (ticks t +ᶠ ratio 1 10000)
 unfolding ticks ◌+ᶠ◌
 solution-near t h m p e = record {
-    cross = rw (ratio_num h m p, ratio_den h m p, ratio_num 1 10000 (lit≤ tt), ratio_den 1 10000 (lit≤ tt)) (omega (arith, e));
-  }
+  cross = rw (ratio_num h m p, ratio_den h m p, ratio_num 1 10000 (lit≤ tt), ratio_den 1 10000 (lit≤ tt)) (omega (arith, e));
+}
 
 pub upper_near : (s : System) (x : List Tick) → AreMild s → IsNearUpper s x
     → (i : ℕ) → i < length s.rows → ticks (tick_at x i) ≤ᶠ (upper_solution s i +ᶠ ten_thousandth)
@@ -237,7 +257,7 @@ upper_near s x a near i l =
     le_trans_f
     (ticks-near (tick_at x i) (numerator n 68719476736 (high_weight s) (high_direct s) i) (denominator n 68719476736 (high_weight s)) (high_solves s a).positive (near.row i l))
     (add_le_f (le_of_eq_f (solution-over n 68719476736 (high_weight s) (high_direct s) (λ i j. ticks (high_weight s i j)) (λ i. ticks (high_direct s i))
-      (ticks_over n (high_weight s) (high_direct s)) (high_rows_below s a) i l)) (le_refl_f (ratio 1 10000)))
+    (ticks_over n (high_weight s) (high_direct s)) (high_rows_below s a) i l)) (le_refl_f (ratio 1 10000)))
 
 above-in : (m x : ℕ) (h : ℤ) → 68719476736 * up h ≤ 68719476736 * down h + m * x → (pos (2 ^ 36) *ℤ h) ≤ℤ (pos m *ℤ pos x)
 above-in m x h e = at_most_in (pos (2 ^ 36) *ℤ h) (pos m *ℤ pos x) (omega (arith, ints, e, times-parts 68719476736 h))
@@ -248,47 +268,47 @@ below-in m x h e = at_most_in (pos m *ℤ pos x) (pos (2 ^ 36) *ℤ h) (omega (a
 pub above_every : (s : System) (x : List Tick) → AreMild s
     → IsShownUpper (length s.rows) 68719476736 (high_weight s) (high_direct s) (tick_at x) → IsAboveEverySolution s (tick_at x)
 above_every s x a shown = record {
-    above = λ q k e m h w t i l. above-in m (tick_at x i) (h i)
+  above = λ q k e m h w t i l. above-in m (tick_at x i) (h i)
       (upper_holds (length s.rows) 68719476736 (high_weight s) (high_direct s) (tick_at x) q k e m (λ j. up (h j)) (λ j. down (h j)) (omega arith)
-        (within_below s q k e a w) (within_high s q k e w) shown (pairs (length s.rows) q k (λ j. pos (e j)) m h t) i l);
-  }
+      (within_below s q k e a w) (within_high s q k e w) shown (pairs (length s.rows) q k (λ j. pos (e j)) m h t) i l);
+}
 
 pub below_every : (s : System) (x : List Tick) → AreMild s
     → IsShownLower (length s.rows) 68719476736 (low_weight s) (low_direct s) (tick_at x) → IsBelowEverySolution s (tick_at x)
 below_every s x a shown = record {
-    below = λ q k e m h w t i l. below-in m (tick_at x i) (h i)
+  below = λ q k e m h w t i l. below-in m (tick_at x i) (h i)
       (lower_holds (length s.rows) 68719476736 (low_weight s) (low_direct s) (tick_at x) q k e m (λ j. up (h j)) (λ j. down (h j)) (omega arith)
-        (within_below s q k e a w) (within_low s q k e w) shown (pairs (length s.rows) q k (λ j. pos (e j)) m h t) i l);
-  }
+      (within_below s q k e a w) (within_low s q k e w) shown (pairs (length s.rows) q k (λ j. pos (e j)) m h t) i l);
+}
 
 pub upper_answer : (s : System) (x : List Tick) → AreMild s → IsShownUpper (length s.rows) 68719476736 (high_weight s) (high_direct s) (tick_at x)
     → IsNearUpper s x → length x ≡ length s.rows → All IsEnd x → IsUpperAnswer s x
 upper_answer s x a shown near size ends = record {
-    size = size;
-    in_range = ends;
-    shown = shown;
-    near = upper_near s x a near;
-    above_all = above_every s x a shown;
-  }
+  size = size;
+  in_range = ends;
+  shown = shown;
+  near = upper_near s x a near;
+  above_all = above_every s x a shown;
+}
 
 pub uniquely_solved : (s : System) → AreMild s → IsUniquelySolved s
 uniquely_solved s a = record {
-    below = λ q k e w. within_below s q k e a w;
-    one = λ q k e w. has_one_solution (length s.rows) q k (λ i. pos (e i)) (within_below s q k e a w);
-  }
+  below = λ q k e w. within_below s q k e a w;
+  one = λ q k e w. has_one_solution (length s.rows) q k (λ i. pos (e i)) (within_below s q k e a w);
+}
 
 -- ---- the iterates from below
 
 pub record IsLowerState (s : System) (x : List Tick) (t : ℕ) : Type 0 where
   pub shown : IsShownLower (length s.rows) 68719476736 (low_weight s) (low_direct s) (tick_at x)
   pub near : (i : ℕ) → i < length s.rows →
-    256 ^ t * (68719476736 * numerator (length s.rows) 68719476736 (low_weight s) (low_direct s) i)
+      256 ^ t * (68719476736 * numerator (length s.rows) 68719476736 (low_weight s) (low_direct s) i)
       ≤ 256 ^ t * (denominator (length s.rows) 68719476736 (low_weight s) * tick_at x i)
-        + denominator (length s.rows) 68719476736 (low_weight s) * error t
+      + denominator (length s.rows) 68719476736 (low_weight s) * error t
 
 low_solves : (s : System) → AreMild s
     → SolvesPlainly (length s.rows) 68719476736 (low_weight s) (low_direct s) (denominator (length s.rows) 68719476736 (low_weight s))
-        (numerator (length s.rows) 68719476736 (low_weight s) (low_direct s))
+    (numerator (length s.rows) 68719476736 (low_weight s) (low_direct s))
 low_solves s a =
     eliminated (length s.rows) 68719476736 (low_weight s) (low_direct s) (light-below (length s.rows) 68719476736 (low_weight s) (omega arith) a.low)
 
@@ -300,10 +320,13 @@ low-top s a i l =
     let n : ℕ = length s.rows in
     let m : ℕ = denominator n 68719476736 (low_weight s) in
     let h : ℕ → ℕ = numerator n 68719476736 (low_weight s) (low_direct s) in
-    omega (arith, upper_holds n 68719476736 (low_weight s) (low_direct s) top 68719476736 (low_weight s) (low_direct s) m h none (omega arith)
-      (light-below n 68719476736 (low_weight s) (omega arith) a.low) (record { coefficient = λ i j l w. omega arith; light = λ i l. omega arith })
-      (top-shown n (low_weight s) (low_direct s) a.low a.low_light)
-      (plain-solves n 68719476736 (low_weight s) (low_direct s) m h (low_solves s a)) i l)
+    omega (
+      arith,
+      upper_holds n 68719476736 (low_weight s) (low_direct s) top 68719476736 (low_weight s) (low_direct s) m h none (omega arith)
+          (light-below n 68719476736 (low_weight s) (omega arith) a.low) (record { coefficient = λ i j l w. omega arith; light = λ i l. omega arith })
+          (top-shown n (low_weight s) (low_direct s) a.low a.low_light)
+          (plain-solves n 68719476736 (low_weight s) (low_direct s) m h (low_solves s a)) i l,
+    )
 
 pub lower_begins : (s : System) (x : List Tick) → AreMild s → x ≡ replicate (length s.rows) (record { 0 = pos 0 }) → IsLowerState s x 0
 lower_begins s x a is =
@@ -329,19 +352,22 @@ lower_rises s x y shown t i l = omega (arith, lower_made s x y t i l, shown.row 
 
 pub lower_turned : (s : System) (x y : List Tick) (t : ℕ) → AreMild s → IsLowerState s x t → IsLowerTurn s x y → IsLowerState s y (t + 1)
 lower_turned s x y t a state turn = record {
-    shown = record {
-        row = λ i l. omega (arith, lower_made s x y turn i l,
-          lower_sum-rises (length s.rows) (low_weight s) (low_direct s) (tick_at x) (tick_at y) (λ j w. lower_rises s x y state.shown turn j w) i);
-      };
-    near = λ i l.
+  shown = record {
+    row = λ i l. omega (
+      arith,
+      lower_made s x y turn i l,
+      lower_sum-rises (length s.rows) (low_weight s) (low_direct s) (tick_at x) (tick_at y) (λ j w. lower_rises s x y state.shown turn j w) i,
+    );
+  };
+  near = λ i l.
       let n : ℕ = length s.rows in
       let m : ℕ = denominator n 68719476736 (low_weight s) in
       let h : ℕ → ℕ = numerator n 68719476736 (low_weight s) (low_direct s) in
       rw (lower_made s x y turn i l)
       (nearer (256 ^ t) (255 ^ t) (256 ^ (t + 1)) (255 ^ (t + 1)) m n (68719476736 * h i)
-        (m * lower_sum n 68719476736 (low_weight s) (low_direct s) (tick_at x) i) a.few (next 256 t) (next 255 t)
-        (lower_turn n 68719476736 (low_weight s) (low_direct s) m h (tick_at x) (256 ^ t) (error t) (omega arith) a.low (low_solves s a) state.near i l));
-  }
+      (m * lower_sum n 68719476736 (low_weight s) (low_direct s) (tick_at x) i) a.few (next 256 t) (next 255 t)
+      (lower_turn n 68719476736 (low_weight s) (low_direct s) m h (tick_at x) (256 ^ t) (error t) (omega arith) a.low (low_solves s a) state.near i l));
+}
 
 pub lower_in_range : (s : System) (x y : List Tick) → AreMild s
     → IsLowerTurn s x y → length x ≡ length s.rows → length y ≡ length s.rows → All IsEnd x → All IsEnd y
@@ -349,24 +375,27 @@ unfolding top
 lower_in_range s x y a t x-size y-size ends =
     All-from_get_or IsEnd y no_tick
     (λ i l.
-      let row : i < length s.rows = omega arith in
-      rw (t.row i row) (end-of (lower_light s x i) (omega (arith, lower_light-is s x i,
-        lower-below-upper (length s.rows) (low_weight s) (low_direct s) (tick_at x) top (λ j w. end-size x j (omega arith) ends) i,
-        (top-shown (length s.rows) (low_weight s) (low_direct s) a.low a.low_light).row i row))))
+    let row : i < length s.rows = omega arith in
+    rw (t.row i row) (end-of (lower_light s x i) (omega (
+      arith,
+      lower_light-is s x i,
+      lower-below-upper (length s.rows) (low_weight s) (low_direct s) (tick_at x) top (λ j w. end-size x j (omega arith) ends) i,
+      (top-shown (length s.rows) (low_weight s) (low_direct s) a.low a.low_light).row i row,
+    ))))
 
 pub record IsNearLower (s : System) (x : List Tick) : Type 0 where
   pub row : (i : ℕ) → i < length s.rows →
-    68719476736 * numerator (length s.rows) 68719476736 (low_weight s) (low_direct s) i
+      68719476736 * numerator (length s.rows) 68719476736 (low_weight s) (low_direct s) i
       ≤ denominator (length s.rows) 68719476736 (low_weight s) * tick_at x i
-        + denominator (length s.rows) 68719476736 (low_weight s) * 6871947
+      + denominator (length s.rows) 68719476736 (low_weight s) * 6871947
 
 pub lower_spent : (s : System) (x : List Tick) → IsLowerState s x 16384 → IsNearLower s x
 lower_spent s x state = record {
-    row = λ i l. cancel-powers (256 ^ 16384) (255 ^ 16384 * 2 ^ 90 + 256 ^ 16384 * 524288) (denominator (length s.rows) 68719476736 (low_weight s))
+  row = λ i l. cancel-powers (256 ^ 16384) (255 ^ 16384 * 2 ^ 90 + 256 ^ 16384 * 524288) (denominator (length s.rows) 68719476736 (low_weight s))
       (68719476736 * numerator (length s.rows) 68719476736 (low_weight s) (low_direct s) i)
       (denominator (length s.rows) 68719476736 (low_weight s) * tick_at x i)
       (one-le-pow 16384 256 (lit≤ tt)) last-powers (state.near i l);
-  }
+}
 
 small-rise : (n d m x y z : ℕ) → n ≤ 2048 → d ≤ 16384 → z ≤ m * x + m * (256 * (n + d)) → x ≤ y → z ≤ m * y + m * 6871947
 small-rise n d m x y z few small h rise =
@@ -377,15 +406,15 @@ pub lower_settled : (s : System) (x y : List Tick) (d : ℕ) → AreMild s
     → IsShownLower (length s.rows) 68719476736 (low_weight s) (low_direct s) (tick_at x)
     → IsLowerTurn s x y → length x ≡ length s.rows → IsChangedBy d x y → d ≤ 16384 → IsNearLower s y
 lower_settled s x y d a shown t size change small = record {
-    row = λ i l.
+  row = λ i l.
       let n : ℕ = length s.rows in
       let m : ℕ = denominator n 68719476736 (low_weight s) in
       let h : ℕ → ℕ = numerator n 68719476736 (low_weight s) (low_direct s) in
       small-rise n d m (tick_at x i) (tick_at y i) (68719476736 * h i) a.few small
       (lower_by_change n 68719476736 (low_weight s) (low_direct s) m h (tick_at x) d (omega arith) a.low (low_solves s a)
-        (λ j w. omega (arith, change.up j (omega arith), lower_made s x y t j w)) i l)
+      (λ j w. omega (arith, change.up j (omega arith), lower_made s x y t j w)) i l)
       (lower_rises s x y shown t i l);
-  }
+}
 
 pub lower_near : (s : System) (x : List Tick) → AreMild s → IsNearLower s x
     → (i : ℕ) → i < length s.rows → lower_solution s i ≤ᶠ (ticks (tick_at x i) +ᶠ ten_thousandth)
@@ -393,26 +422,26 @@ lower_near s x a near i l =
     let n : ℕ = length s.rows in
     le_trans_f
     (ge_of_eq_f (solution-over n 68719476736 (low_weight s) (low_direct s) (λ i j. ticks (low_weight s i j)) (λ i. ticks (low_direct s i))
-      (ticks_over n (low_weight s) (low_direct s)) (low_rows_below s a) i l))
+    (ticks_over n (low_weight s) (low_direct s)) (low_rows_below s a) i l))
     (solution-near (tick_at x i) (numerator n 68719476736 (low_weight s) (low_direct s) i) (denominator n 68719476736 (low_weight s)) (low_solves s a).positive (near.row i l))
 
 pub lower_answer : (s : System) (x : List Tick) → AreMild s → IsShownLower (length s.rows) 68719476736 (low_weight s) (low_direct s) (tick_at x)
     → IsNearLower s x → length x ≡ length s.rows → All IsEnd x → IsLowerAnswer s x
 lower_answer s x a shown near size ends = record {
-    size = size;
-    in_range = ends;
-    shown = shown;
-    near = lower_near s x a near;
-    below_all = below_every s x a shown;
-  }
+  size = size;
+  in_range = ends;
+  shown = shown;
+  near = lower_near s x a near;
+  below_all = below_every s x a shown;
+}
 
 -- ---- both
 
 pub answers_in_order : (s : System) (lower upper : List Tick) → AreMild s → IsLowerAnswer s lower → IsUpperAnswer s upper → IsInOrder s lower upper
 answers_in_order s lower upper a low high = record {
-    at = in_order (length s.rows) 68719476736 (low_weight s) (high_weight s) (low_direct s) (high_direct s) (tick_at lower) (tick_at upper) (omega arith)
+  at = in_order (length s.rows) 68719476736 (low_weight s) (high_weight s) (low_direct s) (high_direct s) (tick_at lower) (tick_at upper) (omega arith)
       (light-below (length s.rows) 68719476736 (high_weight s) (omega arith) a.high) a.ordered a.ordered_light low.shown high.shown;
-  }
+}
 
 -- ---- the lists with which the iterations begin
 
@@ -423,8 +452,8 @@ start-ends : (n v : ℕ) (x : List Tick) → v ≤ 2 ^ 90 → x ≡ replicate n 
 start-ends n v x h is =
     All-from_get_or IsEnd x no_tick
     (λ i l.
-      let inside : i < n = omega (arith, start_size n x (record { 0 = pos v }) is) in
-      rw is (rw (get_or-replicate n i (record { 0 = pos v }) no_tick inside) (end-of v h)))
+    let inside : i < n = omega (arith, start_size n x (record { 0 = pos v }) is) in
+    rw is (rw (get_or-replicate n i (record { 0 = pos v }) no_tick inside) (end-of v h)))
 
 pub lower_starts : (n : ℕ) (x : List Tick) → x ≡ replicate n (record { 0 = pos 0 }) → All IsEnd x
 lower_starts n x is = start-ends n 0 x (lit≤ tt) is

@@ -1,13 +1,13 @@
 -- The sums of a row as far as a loop has come.
-use Rattle.std.proofs.Common.{ℕ, zero, suc, ◌+◌, ◌-◌, ◌*◌, ◌/◌, ◌^◌, ◌<◌, ◌≤◌, ◌≡◌, refl, sym, ap, List, length, get_or, arith, add-one, All}
+use Rattle.std.proofs.Common.{ℕ, ◌+◌, ◌*◌, ◌/◌, ◌^◌, ◌≤◌, ◌≡◌, refl, List, length, arith, add-one}
 use Rattle.std.specs.Prelude.{ℤ, pos, negsuc, ◌≤ℤ◌}
-use borrow.Author.Differences.{ints, le_out}
+use borrow.Author.Differences.{ints}
 use Rattle.fx_base.specs.declared.Tick.{Tick}
 use Rattle.fx_base.specs.Units.{natural}
 use Rattle.interval_system.specs.Whole.{total}
 use Rattle.interval_system.specs.System.{System, low_weight, high_weight, low_direct, high_direct}
 use Rattle.radiosity_solve.specs.Shown.{down_to, up_to}
-use Rattle.radiosity_solve.specs.Bounds.{IsEnd, tick_at, no_tick}
+use Rattle.radiosity_solve.specs.Bounds.{IsEnd, tick_at}
 use Rattle.radiosity_solve.specs.Turn.{lower_light, upper_light}
 
 unfoldable pub lower_so_far : System → List Tick → ℕ → ℕ → ℕ

@@ -1,6 +1,5 @@
 -- Sums f 0 + .. + f (n - 1) of whole numbers.
 use Rattle.std.proofs.Common.{ℕ, zero, suc, ◌+◌, ◌*◌, ◌<◌, ◌≤◌, ◌≡◌, refl, ap, inl, inr, arith}
-use Rattle.std.proofs.Math.Nat.{mul-le-mul_left}
 use Rattle.std.proofs.lemmas.Bool.{cases_lt}
 use Rattle.interval_system.specs.Whole.{total}
 
@@ -38,9 +37,9 @@ total-scale (suc n) c f = omega (arith, total-scale n c f)
 pub at-le-total : (n : ℕ) (f : ℕ → ℕ) (i : ℕ) → i < n → f i ≤ total n f
 at-le-total zero f i l = absurd (omega (arith, l))
 at-le-total (suc n) f i l = elim (cases_lt i n) [
-      inl w ↦ omega (arith, at-le-total n f i w)
-    | inr w ↦ let e : i ≡ n = omega arith in omega (arith, ap f e)
-  ]
+  | inl w ↦ omega (arith, at-le-total n f i w)
+  | inr w ↦ let e : i ≡ n = omega arith in omega (arith, ap f e)
+]
 
 -- the first term apart
 pub total-first : (n : ℕ) (f : ℕ → ℕ) → total (suc n) f ≡ f 0 + total n (λ j. f (suc j))

@@ -1,5 +1,5 @@
 -- What the bounds of a system's solution are.
-use Rattle.std.specs.Prelude.{ℕ, ◌+◌, ◌*◌, ◌^◌, ◌<◌, ◌≤◌, ◌≡◌, List, length, slice_index_or, All, ℤ, pos, ◌*ℤ◌, ◌≤ℤ◌}
+use Rattle.std.specs.Prelude.{ℕ, ◌*◌, ◌^◌, ◌<◌, ◌≤◌, ◌≡◌, List, length, slice_index_or, All, ℤ, pos, ◌*ℤ◌, ◌≤ℤ◌}
 use Rattle.fx_base.specs.declared.Tick.{Tick}
 use Rattle.fx_base.specs.Fraction.{Fraction, ◌≤ᶠ◌, ◌+ᶠ◌, ratio}
 use Rattle.fx_base.specs.Units.{natural, ticks}
@@ -40,11 +40,11 @@ pub record IsUniquelySolved (s : System) : Type 0 where
 -- x i ticks are at most what any solution of any of them has at patch i
 pub record IsBelowEverySolution (s : System) (x : ℕ → ℕ) : Type 0 where
   pub below : (q : ℕ) (k : ℕ → ℕ → ℕ) (e : ℕ → ℕ) (m : ℕ) (h : ℕ → ℤ) → IsWithin s q k e → IsSolution (length s.rows) q k (λ i. pos (e i)) m h
-    → (i : ℕ) → i < length s.rows → (pos m *ℤ pos (x i)) ≤ℤ (pos (2 ^ 36) *ℤ h i)
+      → (i : ℕ) → i < length s.rows → (pos m *ℤ pos (x i)) ≤ℤ (pos (2 ^ 36) *ℤ h i)
 
 pub record IsAboveEverySolution (s : System) (x : ℕ → ℕ) : Type 0 where
   pub above : (q : ℕ) (k : ℕ → ℕ → ℕ) (e : ℕ → ℕ) (m : ℕ) (h : ℕ → ℤ) → IsWithin s q k e → IsSolution (length s.rows) q k (λ i. pos (e i)) m h
-    → (i : ℕ) → i < length s.rows → (pos (2 ^ 36) *ℤ h i) ≤ℤ (pos m *ℤ pos (x i))
+      → (i : ℕ) → i < length s.rows → (pos (2 ^ 36) *ℤ h i) ≤ℤ (pos m *ℤ pos (x i))
 
 -- ---- the solutions of all lower ends, and of all upper ends
 

@@ -16,7 +16,7 @@ signed_numerator n q k e i = pos (numerator n q k (λ j. natural (e j)) i) -ℤ 
 pub record HasOneSolution (n q : ℕ) (k : ℕ → ℕ → ℕ) (e : ℕ → ℤ) : Type 0 where
   pub solves : IsSolution n q k e (denominator n q k) (signed_numerator n q k e)
   pub alone : (m : ℕ) (h : ℕ → ℤ) → IsSolution n q k e m h → (i : ℕ) → i < n
-    → pos (denominator n q k) *ℤ h i ≡ pos m *ℤ signed_numerator n q k e i
+      → pos (denominator n q k) *ℤ h i ≡ pos m *ℤ signed_numerator n q k e i
   pub not_negative : ((i : ℕ) → i < n → pos 0 ≤ℤ e i) → (i : ℕ) → i < n → pos 0 ≤ℤ signed_numerator n q k e i
 
 abbrev pub OneSolution : Type 0

@@ -1,5 +1,5 @@
 -- A turn of the solver: each row once more, with the light that the last turn gave.
-use Rattle.std.specs.Prelude.{ℕ, ◌+◌, ◌*◌, ◌/◌, ◌<◌, ◌≤◌, ◌≡◌, List, length, slice_index_or, pos}
+use Rattle.std.specs.Prelude.{ℕ, ◌+◌, ◌<◌, ◌≤◌, ◌≡◌, List, length, slice_index_or, pos}
 use Rattle.fx_base.specs.declared.Tick.{Tick}
 use Rattle.interval_system.specs.System.{System, low_weight, high_weight, low_direct, high_direct}
 use Rattle.radiosity_solve.specs.Shown.{lower_sum, upper_sum}

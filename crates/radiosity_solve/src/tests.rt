@@ -56,7 +56,9 @@ fn no_row_has_no_bounds(rt: HostRuntime) -> Result<(), Fail> {
 
 // h = 1 + h / 2
 #[test]
-fn a_patch_that_sends_itself_a_half_has_twice_its_direct_light(rt: HostRuntime) -> Result<(), Fail> {
+fn a_patch_that_sends_itself_a_half_has_twice_its_direct_light(
+    rt: HostRuntime,
+) -> Result<(), Fail> {
     let system = one_row(rt.alloc(), 34_359_738_368)?;
     let bounds = solve(rt.alloc(), &system)?;
     assert!(rt; encloses(&bounds, 0, 2 * ONE, 2 * ONE));
@@ -92,7 +94,10 @@ fn a_row_of_one_tick_more_is_refused(rt: HostRuntime) -> Result<(), Fail> {
         row: 0,
         upper: 68_451_041_281,
     };
-    assert_eq!(rt; solve(rt.alloc(), &system).err(), Some(SolveFault::RowSum(heavy)));
+    assert_eq!(rt;
+        solve(rt.alloc(), &system).err(),
+        Some(SolveFault::RowSum(heavy))
+    );
     Ok(())
 }
 

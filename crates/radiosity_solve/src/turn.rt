@@ -109,7 +109,11 @@ pub(crate) fn greatest_change(from: &[Tick], into: &[Tick]) -> u128
     for i in 0..from.len() {
         let before = size_of(from[i]);
         let after = size_of(into[i]);
-        let change = if before < after { after - before } else { before - after };
+        let change = if before < after {
+            after - before
+        } else {
+            before - after
+        };
         if most < change {
             most = change;
         }

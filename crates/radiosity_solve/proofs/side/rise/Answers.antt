@@ -1,4 +1,4 @@
-use Rattle.std.proofs.Common.{◌≡◌, length, arith}
+use Rattle.std.proofs.Common.{arith}
 use Rattle.radiosity_solve.proofs.Mild.{mild}
 use Rattle.radiosity_solve.proofs.States.{lower_in_range}
 use Rattle.radiosity_solve.proofs.side.rise.Goals as goal

@@ -1,4 +1,4 @@
-use Rattle.std.proofs.Common.{◌≡◌, ◌∙◌, arith, length}
+use Rattle.std.proofs.Common.{◌∙◌, arith}
 use Rattle.radiosity_solve.proofs.Steps.{lower_end}
 use Rattle.radiosity_solve.proofs.turn.lower_row.Goals as goal
 

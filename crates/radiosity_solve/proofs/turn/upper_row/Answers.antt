@@ -1,4 +1,4 @@
-use Rattle.std.proofs.Common.{◌≡◌, ◌∙◌, arith, length}
+use Rattle.std.proofs.Common.{◌∙◌, arith}
 use Rattle.radiosity_solve.proofs.Steps.{upper_end}
 use Rattle.radiosity_solve.proofs.turn.upper_row.Goals as goal
 
