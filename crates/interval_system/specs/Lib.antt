@@ -4,3 +4,4 @@ pub mod Equations
 pub mod Lit
 pub mod System
 mod LitTests
+mod SystemTests

@@ -4,3 +4,4 @@ pub mod Bounds
 pub mod SolveFault
 pub mod Turn
 pub mod Composition
+mod ShownTests
