@@ -1,16 +1,27 @@
--- What a lit scene's numbers give, where each is known to lie in an interval: the solutions of all lower and of all upper ends, and the
--- values at the points of a task.
+-- What the numbers of a lit scene give, where each is known to lie in an interval: the light of its patches with all lower and with
+-- all upper ends, and the values at the points of a task.
 use Rattle.std.specs.Prelude.{ℕ, Bool}
 use Rattle.fx_base.specs.Fraction.{Fraction, ◌+ᶠ◌, ◌-ᶠ◌}
 use Rattle.fx_base.specs.Interval.{Interval}
 use Rattle.interval_system.specs.Equations.{value_by, solution}
 use Rattle.interval_system.specs.Values.{Grid}
 
--- patches and points: the coefficients with which the patches light each of them, and their direct light
+-- the coefficients and the direct light of patches
+pub record Enclosures : Type 0 where
+  pub size : ℕ
+  pub coefficient : ℕ → ℕ → Interval
+  pub direct : ℕ → Interval
+
+-- the light of patch i where every number is at its lower end, and where every number is at its upper end
+unfoldable pub lower_light : Enclosures → ℕ → Fraction
+lower_light s i = solution s.size (λ i j. (s.coefficient i j).lo) (λ i. (s.direct i).lo) i
+
+unfoldable pub upper_light : Enclosures → ℕ → Fraction
+upper_light s i = solution s.size (λ i j. (s.coefficient i j).hi) (λ i. (s.direct i).hi) i
+
+-- patches, and points with the coefficients and the direct light that they have
 pub record Lit : Type 0 where
-  pub patches : ℕ
-  pub patch_coefficient : ℕ → ℕ → Interval
-  pub patch_direct : ℕ → Interval
+  pub patches : Enclosures
   pub points : ℕ
   pub covered : ℕ → Bool
   pub coefficient : ℕ → ℕ → Interval
@@ -18,18 +29,11 @@ pub record Lit : Type 0 where
   -- by how much the light of the patches is moved outward before it is used
   pub move : Fraction
 
--- the light of patch j with all lower ends, and with all upper ends
-unfoldable pub lower_light : Lit → ℕ → Fraction
-lower_light s j = solution s.patches (λ i j. (s.patch_coefficient i j).lo) (λ i. (s.patch_direct i).lo) j
-
-unfoldable pub upper_light : Lit → ℕ → Fraction
-upper_light s j = solution s.patches (λ i j. (s.patch_coefficient i j).hi) (λ i. (s.patch_direct i).hi) j
-
 -- the value at point g
 unfoldable pub value : Lit → ℕ → Interval
 value s g = record {
-  lo = value_by s.patches (s.direct g).lo (λ j. (s.coefficient g j).lo) (λ j. lower_light s j -ᶠ s.move);
-  hi = value_by s.patches (s.direct g).hi (λ j. (s.coefficient g j).hi) (λ j. upper_light s j +ᶠ s.move);
+  lo = value_by s.patches.size (s.direct g).lo (λ j. (s.coefficient g j).lo) (λ j. lower_light s.patches j -ᶠ s.move);
+  hi = value_by s.patches.size (s.direct g).hi (λ j. (s.coefficient g j).hi) (λ j. upper_light s.patches j +ᶠ s.move);
 }
 
 -- the values at all points, of which the average and the uniformity are taken

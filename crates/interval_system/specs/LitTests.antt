@@ -4,7 +4,7 @@ use Rattle.fx_base.specs.Fraction.{Fraction, ratio, whole, at_most, ◌+ᶠ◌, 
 use Rattle.fx_base.specs.Interval.{exact}
 use Rattle.interval_system.specs.Whole.{reduced, reduced_light, denominator, numerator}
 use Rattle.interval_system.specs.Equations.{value_by, product_to, common_denominator, over, solution}
-use Rattle.interval_system.specs.Lit.{Lit, lower_light, upper_light, value, grid}
+use Rattle.interval_system.specs.Lit.{Enclosures, Lit, lower_light, upper_light, value, grid}
 use Rattle.interval_system.specs.Values.{open_count, open_sum, mean, average}
 
 unfoldable all_of_it : Unit {0}
@@ -40,9 +40,7 @@ cube_lit = refl
 scene : Lit
 unfolding all_of_it
 scene = record {
-  patches = 1;
-  patch_coefficient = λ i j. exact (ratio 1 2);
-  patch_direct = λ i. record { lo = whole 1; hi = whole 2 };
+  patches = record { size = 1; coefficient = λ i j. exact (ratio 1 2); direct = λ i. record { lo = whole 1; hi = whole 2 } };
   points = 2;
   covered = λ g. if g == 0 then true else false;
   coefficient = λ g j. exact (ratio 1 2);

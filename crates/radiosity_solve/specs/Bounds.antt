@@ -35,15 +35,18 @@ pub record IsWithin (s : System) (q : ℕ) (k : ℕ → ℕ → ℕ) (e : ℕ �
 -- each of them has row sums below one, and so exactly one solution
 pub record IsUniquelySolved (s : System) : Type 0 where
   pub below : (q : ℕ) (k : ℕ → ℕ → ℕ) (e : ℕ → ℕ) → IsWithin s q k e → IsBelowOne (length s.rows) q k
-  pub one : (q : ℕ) (k : ℕ → ℕ → ℕ) (e : ℕ → ℕ) → IsWithin s q k e → HasOneSolution (length s.rows) q k (λ i. pos (e i))
+  pub one : (q : ℕ) (k : ℕ → ℕ → ℕ) (e : ℕ → ℕ) → IsWithin s q k e
+      → HasOneSolution (length s.rows) q k (λ i. pos (e i))
 
 -- x i ticks are at most what any solution of any of them has at patch i
 pub record IsBelowEverySolution (s : System) (x : ℕ → ℕ) : Type 0 where
-  pub below : (q : ℕ) (k : ℕ → ℕ → ℕ) (e : ℕ → ℕ) (m : ℕ) (h : ℕ → ℤ) → IsWithin s q k e → IsSolution (length s.rows) q k (λ i. pos (e i)) m h
+  pub below : (q : ℕ) (k : ℕ → ℕ → ℕ) (e : ℕ → ℕ) (m : ℕ) (h : ℕ → ℤ)
+      → IsWithin s q k e → IsSolution (length s.rows) q k (λ i. pos (e i)) m h
       → (i : ℕ) → i < length s.rows → (pos m *ℤ pos (x i)) ≤ℤ (pos (2 ^ 36) *ℤ h i)
 
 pub record IsAboveEverySolution (s : System) (x : ℕ → ℕ) : Type 0 where
-  pub above : (q : ℕ) (k : ℕ → ℕ → ℕ) (e : ℕ → ℕ) (m : ℕ) (h : ℕ → ℤ) → IsWithin s q k e → IsSolution (length s.rows) q k (λ i. pos (e i)) m h
+  pub above : (q : ℕ) (k : ℕ → ℕ → ℕ) (e : ℕ → ℕ) (m : ℕ) (h : ℕ → ℤ)
+      → IsWithin s q k e → IsSolution (length s.rows) q k (λ i. pos (e i)) m h
       → (i : ℕ) → i < length s.rows → (pos (2 ^ 36) *ℤ h i) ≤ℤ (pos m *ℤ pos (x i))
 
 -- ---- the solutions of all lower ends, and of all upper ends

@@ -15,26 +15,29 @@ ticks_solution n k d i = solution n (λ i j. ticks (k i j)) (λ i. ticks (d i)) 
 
 -- a lower claim shown by lower ends is at most the solution of any equations that are at least those ends
 abbrev pub LowerIsBelow : Type 0
-LowerIsBelow = (n : ℕ) (k : ℕ → ℕ → Fraction) (d : ℕ → Fraction) (lo : ℕ → ℕ → ℕ) (dlo lower : ℕ → ℕ) → RowsBelowOne n k
+LowerIsBelow = (n : ℕ) (k : ℕ → ℕ → Fraction) (d : ℕ → Fraction) (lo : ℕ → ℕ → ℕ) (dlo lower : ℕ → ℕ)
+    → RowsBelowOne n k
     → ((i j : ℕ) → i < n → j < n → ticks (lo i j) ≤ᶠ k i j) → ((i : ℕ) → i < n → ticks (dlo i) ≤ᶠ d i)
     → IsShownLower n (2 ^ 36) lo dlo lower → (i : ℕ) → i < n → ticks (lower i) ≤ᶠ solution n k d i
 
 -- an upper claim shown by upper ends is at least the solution of any equations that are at most those ends
 abbrev pub UpperIsAbove : Type 0
-UpperIsAbove = (n : ℕ) (k : ℕ → ℕ → Fraction) (d : ℕ → Fraction) (hi : ℕ → ℕ → ℕ) (dhi upper : ℕ → ℕ) → RowsBelowOne n k
+UpperIsAbove = (n : ℕ) (k : ℕ → ℕ → Fraction) (d : ℕ → Fraction) (hi : ℕ → ℕ → ℕ) (dhi upper : ℕ → ℕ)
+    → RowsBelowOne n k
     → ((i j : ℕ) → i < n → j < n → k i j ≤ᶠ ticks (hi i j)) → ((i : ℕ) → i < n → d i ≤ᶠ ticks (dhi i))
     → IsShownUpper n (2 ^ 36) hi dhi upper → (i : ℕ) → i < n → solution n k d i ≤ᶠ ticks (upper i)
 
 -- bounds within `move` of the solution of their ticks are within `move` of the solution of any equations further out
 abbrev pub UpperIsWithin : Type 0
-UpperIsWithin = (n : ℕ) (k : ℕ → ℕ → Fraction) (d : ℕ → Fraction) (hi : ℕ → ℕ → ℕ) (dhi upper : ℕ → ℕ) (move : Fraction) → RowsBelowOne n k
+UpperIsWithin = (n : ℕ) (k : ℕ → ℕ → Fraction) (d : ℕ → Fraction) (hi : ℕ → ℕ → ℕ) (dhi upper : ℕ → ℕ)
+    (move : Fraction) → RowsBelowOne n k
     → ((i j : ℕ) → i < n → j < n → ticks (hi i j) ≤ᶠ k i j) → ((i : ℕ) → i < n → ticks (dhi i) ≤ᶠ d i)
     → ((i : ℕ) → i < n → ticks (upper i) ≤ᶠ (ticks_solution n hi dhi i +ᶠ move))
     → (i : ℕ) → i < n → ticks (upper i) ≤ᶠ (solution n k d i +ᶠ move)
 
 abbrev pub LowerIsWithin : Type 0
-LowerIsWithin = (n : ℕ) (k : ℕ → ℕ → Fraction) (d : ℕ → Fraction) (lo : ℕ → ℕ → ℕ) (dlo lower : ℕ → ℕ) (move : Fraction)
-    → RowsBelowOne n (λ i j. ticks (lo i j))
+LowerIsWithin = (n : ℕ) (k : ℕ → ℕ → Fraction) (d : ℕ → Fraction) (lo : ℕ → ℕ → ℕ) (dlo lower : ℕ → ℕ)
+    (move : Fraction) → RowsBelowOne n (λ i j. ticks (lo i j))
     → ((i j : ℕ) → i < n → j < n → k i j ≤ᶠ ticks (lo i j)) → ((i : ℕ) → i < n → d i ≤ᶠ ticks (dlo i))
     → ((i : ℕ) → i < n → ticks_solution n lo dlo i ≤ᶠ (ticks (lower i) +ᶠ move))
     → (i : ℕ) → i < n → solution n k d i ≤ᶠ (ticks (lower i) +ᶠ move)
