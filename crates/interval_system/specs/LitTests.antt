@@ -4,7 +4,7 @@ use Rattle.fx_base.specs.Fraction.{Fraction, ratio, whole, at_most, ◌+ᶠ◌, 
 use Rattle.fx_base.specs.Interval.{exact}
 use Rattle.interval_system.specs.Whole.{reduced, reduced_light, denominator, numerator}
 use Rattle.interval_system.specs.Equations.{value_by, product_to, common_denominator, over, solution}
-use Rattle.interval_system.specs.Lit.{Enclosures, Lit, lower_light, upper_light, value, grid}
+use Rattle.interval_system.specs.Lit.{Lit, lower_light, upper_light, value, grid}
 use Rattle.interval_system.specs.Values.{open_count, open_sum, mean, average}
 
 unfoldable all_of_it : Unit {0}

@@ -1,8 +1,7 @@
 -- Systems and their equations in whole numbers, computed.
-use Rattle.std.specs.Prelude.{ℕ, ◌≡◌, ◌∷◌, [], List, refl, pos}
+use Rattle.std.specs.Prelude.{◌≡◌, ◌∷◌, [], List, refl, pos}
 use Rattle.std.proofs.Math.Nat.{zero-lt-suc}
 use Rattle.fx_base.specs.declared.Weight.{Weight}
-use Rattle.fx_base.specs.Ends.{Ends}
 use Rattle.interval_system.specs.Whole.{IsSolution}
 use Rattle.interval_system.specs.System.{System, low_weight, high_weight, high_direct, upper_total}
 
