@@ -1,0 +1,62 @@
+-- Equations and lit scenes, computed. The values are those of the equations solved by hand.
+use Rattle.std.specs.Prelude.{ℕ, ◌≡◌, ◌*◌, ◌/◌, ◌==◌, ◌&&◌, true, false, refl, if◌then◌else◌}
+use Rattle.fx_base.specs.Fraction.{Fraction, ratio, whole, at_most, ◌+ᶠ◌, ◌-ᶠ◌, ◌*ᶠ◌, ◌/ᶠ◌, sum_to}
+use Rattle.fx_base.specs.Interval.{exact}
+use Rattle.interval_system.specs.Whole.{reduced, reduced_light, denominator, numerator}
+use Rattle.interval_system.specs.Equations.{value_by, product_to, common_denominator, over, solution}
+use Rattle.interval_system.specs.Lit.{Lit, lower_light, upper_light, value, grid}
+use Rattle.interval_system.specs.Values.{open_count, open_sum, mean, average}
+
+unfoldable all_of_it : Unit {0}
+unfolding ratio whole ◌+ᶠ◌ ◌-ᶠ◌ ◌*ᶠ◌ ◌/ᶠ◌ sum_to reduced reduced_light denominator numerator value_by product_to common_denominator over solution lower_light upper_light value grid open_count open_sum mean average
+all_of_it = tt
+
+-- h0 = 1 + h1 / 2 and h1 = h0 / 4: h0 = 8/7, h1 = 2/7
+two : ℕ → Fraction
+unfolding all_of_it
+two = solution 2 (λ i j. if i == j then whole 0 else (if i == 0 then ratio 1 2 else ratio 1 4)) (λ i. if i == 0 then whole 1 else whole 0)
+
+two_first : (two 0).num * 7 ≡ 8 * (two 0).den
+unfolding all_of_it two
+two_first = refl
+
+two_second : (two 1).num * 7 ≡ 2 * (two 1).den
+unfolding all_of_it two
+two_second = refl
+
+-- a cube of 2 m whose six patches reflect a half and have 200 lux each: 407.92 to 407.93. Opposite patches have the coefficient
+-- 4 / (4 pi + 4) / 2, adjacent ones 2 / (2 pi + 4) / 2, here in millionths
+cube : ℕ → Fraction
+unfolding all_of_it
+cube = solution 6
+    (λ i j. if i == j then whole 0 else (if i / 2 == j / 2 then ratio 120727 1000000 else ratio 97246 1000000)) (λ i. whole 200)
+
+cube_lit : (at_most (ratio 40792 100) (cube 0) && at_most (cube 0) (ratio 40793 100)) ≡ true
+unfolding all_of_it cube
+cube_lit = refl
+
+-- one patch that sends itself a half and has a direct light of 1 to 2, so 2 to 4, moved by 1; and a point with a direct light of 3
+-- that it lights by a half, beside a covered one: 3.5 to 5.5
+scene : Lit
+unfolding all_of_it
+scene = record {
+  patches = record { size = 1; coefficient = λ i j. exact (ratio 1 2); direct = λ i. record { lo = whole 1; hi = whole 2 } };
+  points = 2;
+  covered = λ g. if g == 0 then true else false;
+  coefficient = λ g j. exact (ratio 1 2);
+  direct = λ g. exact (whole 3);
+  move = whole 1;
+}
+
+point_low : (value scene 1).lo.num * 2 ≡ 7 * (value scene 1).lo.den
+unfolding all_of_it scene
+point_low = refl
+
+point_high : (value scene 1).hi.num * 2 ≡ 11 * (value scene 1).hi.den
+unfolding all_of_it scene
+point_high = refl
+
+-- the average is over the point that isn't covered
+average_high : (average (grid scene)).hi.num * 2 ≡ 11 * (average (grid scene)).hi.den
+unfolding all_of_it scene
+average_high = refl

@@ -1,0 +1,14 @@
+pub mod Sums
+pub mod Maximum
+pub mod Pairs
+pub mod Elimination
+pub mod Unique
+pub mod Claims
+pub mod Rate
+pub mod Signed
+pub mod Over
+pub mod Fractions
+pub mod Steps
+pub mod Mild
+pub mod States
+pub mod Compose
