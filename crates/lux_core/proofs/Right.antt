@@ -77,6 +77,17 @@ least_within_average vs covered a same some is each =
     let three = mean_below vs covered high same some (λ g d l o. ticks_le (upper_end (slice_index_or vs g no_point)) (upper_end (slice_index_or vs g d)) (default_same upper_end vs g d l)) in
     ticks_back a (average_high vs) (le_trans_f one (le_trans_f two three))
 
+-- and the average's lower end is at most its upper end
+pub averages_order : (vs : List PointValue) (covered : ℕ → Bool) → AreCoveredBy vs covered → 0 < open_total vs
+    → ((g : ℕ) (d : PointValue) → g < length vs → IsValue (slice_index_or vs g d)) → average_low vs ≤ average_high vs
+averages_order vs covered same some each =
+    let low : ℕ → Fraction = λ g. ticks (lower_end (slice_index_or vs g no_point)) in
+    let high : ℕ → Fraction = λ g. ticks (upper_end (slice_index_or vs g no_point)) in
+    let one = mean_above vs covered low same some (λ g d l o. ticks_le (lower_end (slice_index_or vs g d)) (lower_end (slice_index_or vs g no_point)) (same_default lower_end vs g d l)) in
+    let two = mean_le covered low high (length vs) (rw (count_is vs covered same) some) (λ g l o. ticks_le (lower_end (slice_index_or vs g no_point)) (upper_end (slice_index_or vs g no_point)) (ends_order (slice_index_or vs g no_point) (each g no_point l))) in
+    let three = mean_below vs covered high same some (λ g d l o. ticks_le (upper_end (slice_index_or vs g no_point)) (upper_end (slice_index_or vs g d)) (default_same upper_end vs g d l)) in
+    ticks_back (average_low vs) (average_high vs) (le_trans_f one (le_trans_f two three))
+
 at_test : (b : Bool) (x y a : Fraction) → (b ≡ true → a ≤ᶠ x) → (b ≡ false → a ≤ᶠ y) → a ≤ᶠ (if b then x else y)
 at_test true x y a f g = f refl
 at_test false x y a f g = g refl
