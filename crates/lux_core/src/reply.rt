@@ -1,16 +1,18 @@
 // The status and the text of a run, made whole before anything is written.
 ghost use Rattle.std.specs.Prelude.{◌≡◌, ◌≢◌, ◌+◌, ◌*◌, ◌^◌, ◌<◌, ◌≤◌, All, IfOk, IfSome, OnErr, length, sum_by, string_bytes, map, Some, None};
 ghost use Rattle.lux_io.specs.Files.{bytes_of, Rose};
-ghost use Rattle.room_layout.specs.Accepted.{IsPlainLamp};
+ghost use Rattle.room_layout.specs.Accepted.{IsAccepted, IsPlain};
 ghost use Rattle.lux_core.specs.Answers.{candela_of, IsRoomAnswer};
 ghost use Rattle.lux_core.specs.Commands.{report_name};
+ghost use Rattle.lux_core.specs.Headline.{IsRight};
 ghost use Rattle.lux_core.specs.Positions.{IsDim};
+ghost use Rattle.lux_core.specs.Printed.{report_text, Report};
 
 use crate::points::points_of;
 use crate::status::Status;
 use crate::text::text_of_report;
 use lux_io::{Shelf, TakeFault, take_file};
-use room_layout::{Lamp, RoomFault, Shine, read_room};
+use room_layout::{Lamp, Room, RoomFault, Shine, read_room};
 use std::alloc::{AllocError, Global};
 
 /// The greatest number of bytes of a file.
@@ -41,6 +43,17 @@ fn total_of(lamps: &[Lamp]) -> u64
     total
 }
 
+/// The report of a room.
+fn report_of(alloc: Global, room: &Room) -> Result<String, AllocError>
+    requires accepted { IsAccepted room.now }
+    requires plain { IsPlain room.now }
+    ensures { IfOk result (λ s. (r : Report) × IsRight room.now r × (string_bytes s ≡ report_text r)) }
+{
+    let values = points_of(alloc, room)?;
+    let text = text_of_report(alloc, room.task.nx, values.as_slice())?;
+    Ok(text)
+}
+
 /// The answer to the bytes of a room file.
 fn reply_to_room(alloc: Global, bytes: &[u8]) -> Result<Reply, AllocError>
     ensures { IfOk result (λ r. IsRoomAnswer bytes.now r.status (string_bytes r.text)) }
@@ -60,8 +73,7 @@ fn reply_to_room(alloc: Global, bytes: &[u8]) -> Result<Reply, AllocError>
         let status = Status::Refused;
         return Ok(Reply { status, text });
     }
-    let values = points_of(alloc, &room)?;
-    let text = text_of_report(alloc, room.task.nx, values.as_slice())?;
+    let text = report_of(alloc, &room)?;
     let status = Status::Done;
     Ok(Reply { status, text })
 }
