@@ -6,4 +6,5 @@ pub mod Ratios
 pub mod RootLaws
 pub mod Rounding
 pub mod SearchLaws
+pub mod SpanSteps
 pub mod Sums

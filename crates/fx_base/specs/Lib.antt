@@ -6,4 +6,5 @@ pub mod Nesting
 pub mod Root
 pub mod RootTests
 pub mod Search
+pub mod SpanLaws
 pub mod Units

@@ -1,6 +1,7 @@
 //! What holds of the definitions in `specs/`, each as the contract of a function that does nothing.
 
 ghost use Rattle.fx_base.specs.Laws.{NearByMeeting, NearByMeetingOnCircle, QuotientIsSteady, RootNarrows, RootNests};
+ghost use Rattle.fx_base.specs.SpanLaws.{FractionHolds, ProductHolds, QuotientHolds, RootHolds, ScaledHolds, SumHolds};
 
 /// An interval at most e wide that meets another lies within that other moved outward by e.
 pub fn near_by_meeting()
@@ -29,4 +30,34 @@ pub fn root_narrows()
 #[tactic(auto, using(crate::proofs::Quotient::quotient_steady))]
 pub fn quotient_is_steady()
     ensures { QuotientIsSteady }
+{}
+
+/// The sum of two spans holds the sums of what they hold.
+pub fn sum_holds()
+    ensures { SumHolds }
+{}
+
+/// Their product, rounded outward, holds the products.
+pub fn product_holds()
+    ensures { ProductHolds }
+{}
+
+/// A span times a fraction, rounded outward, holds the multiples.
+pub fn scaled_holds()
+    ensures { ScaledHolds }
+{}
+
+/// The quotient by a positive span, rounded outward, holds the quotients.
+pub fn quotient_holds()
+    ensures { QuotientHolds }
+{}
+
+/// A fraction rounded down and up to a tick lies between the two.
+pub fn fraction_holds()
+    ensures { FractionHolds }
+{}
+
+/// Two ticks on either side of a root hold it, and meet its enclosure at every depth.
+pub fn root_holds()
+    ensures { RootHolds }
 {}

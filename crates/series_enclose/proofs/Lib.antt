@@ -4,6 +4,7 @@ pub mod Arcs
 pub mod Gaps
 pub mod PiLaws
 pub mod Rows
+pub mod Sizes
 pub mod SlantLaws
 pub mod TermSums
 pub mod Terms

@@ -8,6 +8,7 @@ use crate::bounds::{Bounds, product_over};
 use crate::pi::{PI_HIGH, PI_LOW};
 use crate::turns::series_bounds;
 
+/// One, in ticks: the first term of a cosine.
 const ONE: u64 = 68_719_476_736;
 
 /// The angle in radians: times pi, by 180 degrees.
@@ -25,6 +26,7 @@ fn arc_of(angle: u64) -> Bounds
     }
 }
 
+/// Its square.
 fn square_of(arc: Bounds) -> Bounds
     requires order { arc.lo ≤ arc.hi }
     requires narrow { arc.hi ≤ arc.lo + 2 }

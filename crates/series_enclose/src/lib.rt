@@ -1,4 +1,6 @@
-//! Pi, sines and cosines as spans of ticks that meet their series at every depth.
+//! Pi, sines and cosines as spans of ticks. The definitions in `specs/` enclose each of them at every depth n by the first terms
+//! of its series, and the angle of a slope by multiples of 2^-n degrees; each span meets its enclosure at every depth. `laws` says
+//! that the enclosures nest and narrow, and that their ends are sums in which nothing is cut at 0.
 #![tactic(auto)]
 
 mod angle;
