@@ -220,9 +220,13 @@ room_of_document document = do
 
 -- ---- the text
 
+abbrev pub parsed : Option Members → Result Members RoomFault
+parsed None = Err fault.NotToml
+parsed (Some document) = Ok document
+
 -- the document of a text, where it is UTF-8 and TOML
 unfoldable pub document_of : List ℕ → Result Members RoomFault
-document_of bytes = elim (if is_utf8 bytes then parse_document bytes else None) [ None ↦ Err fault.NotToml | Some document ↦ Ok document ]
+document_of bytes = if is_utf8 bytes then parsed (parse_document bytes) else Err fault.NotToml
 
 -- the room of a text by the whole layout
 unfoldable pub room_of : List ℕ → Result Room RoomFault

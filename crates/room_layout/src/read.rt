@@ -1,7 +1,7 @@
 //! The room of a layout, table by table in the order of checking.
 ghost use Rattle.std.specs.Prelude.{◌≡◌, ◌≢◌, ◌≤◌, is_some, Result, Ok, Err, IfOk, IfErr};
 ghost use Rattle.toml.specs.View.{view, table_view};
-ghost use Rattle.room_layout.specs.Layout.{task_from, is_rising, is_task_inside, version_of, shell_of, task_of, limits_of, limits_in, room_of_document, built_room_of};
+ghost use Rattle.room_layout.specs.Layout.{task_from, is_rising, is_task_inside, version_of, shell_of, task_of, limits_of, limits_in, room_of_document, document_of, built_room_of_document, built_room_of};
 ghost use Rattle.room_layout.specs.Accepted.{IsAccepted, IsPlain};
 
 use crate::blocks::read_blocks;
@@ -15,21 +15,43 @@ use std::alloc::Global;
 use toml::{Table, Value};
 
 /// Reads a room layout: the room, or the first fault in the order of checking. `NotBuilt` comes after every other fault.
+#[tactic(auto, unfolding(crate::specs::Layout::built_room_of))]
 pub fn read_room(alloc: Global, bytes: &[u8]) -> Result<Room, RoomFault>
     ensures accepted { IfOk result (λ r. built_room_of bytes.now ≡ Ok r) }
     ensures refused { IfErr result (λ e. e ≢ RoomFault.Memory → built_room_of bytes.now ≡ Err e) }
     ensures bounds { IfOk result IsAccepted }
     ensures plain { IfOk result IsPlain }
 {
-    let document = match toml::table_from_slice(alloc, bytes) {
-        Ok(document) => document,
+    let document = parse(alloc, bytes)?;
+    let room = read_built(alloc, &document)?;
+    Ok(room)
+}
+
+/// The document of a text. Bytes that aren't UTF-8 are no TOML.
+fn parse(alloc: Global, bytes: &[u8]) -> Result<Table, RoomFault>
+    ensures given { IfOk result (λ document. document_of bytes.now ≡ Ok (table_view document)) }
+    ensures refused { IfErr result (λ e. e ≢ RoomFault.Memory → document_of bytes.now ≡ Err e) }
+{
+    match toml::table_from_slice(alloc, bytes) {
+        Ok(document) => Ok(document),
         Err(e) => {
-            let fault = if e.is_memory() { RoomFault::Memory } else { RoomFault::NotToml };
-            return Err(fault);
+            if e.is_memory() {
+                Err(RoomFault::Memory)
+            } else {
+                Err(RoomFault::NotToml)
+            }
         }
-    };
-    let room = read_document(alloc, &document)?;
-    if is_unserved(&document) {
+    }
+}
+
+/// The room of a document by the part of the layout that is served.
+#[tactic(auto, unfolding(crate::specs::Layout::built_room_of_document))]
+fn read_built(alloc: Global, document: &Table) -> Result<Room, RoomFault>
+    ensures given { IfOk result (λ r. built_room_of_document (table_view document.now) ≡ Ok r) }
+    ensures refused { IfErr result (λ e. e ≢ RoomFault.Memory → built_room_of_document (table_view document.now) ≡ Err e) }
+{
+    let room = read_document(alloc, document)?;
+    if is_unserved(document) {
         return Err(RoomFault::NotBuilt);
     }
     Ok(room)
