@@ -5,11 +5,14 @@ ghost use Rattle.room_layout.specs.Layout.{task_from, is_rising, is_task_inside,
 ghost use Rattle.room_layout.specs.Accepted.{IsAccepted, IsPlain};
 
 use crate::blocks::read_blocks;
-use crate::sizes::{reflects_from, size_from};
-use crate::check::{has_only, member, number_where_given, optional_number, optional_numbers, required_number, required_numbers, required_table, table_with};
+use crate::check::{
+    has_only, member, number_where_given, optional_number, optional_numbers, required_number,
+    required_numbers, required_table, table_with,
+};
 use crate::lamps::read_lamps;
 use crate::parts::Shell;
 use crate::served::is_unserved;
+use crate::sizes::{reflects_from, size_from};
 use crate::{Key, Limits, Reflects, Room, RoomFault, Size, Spot, TaskGrid};
 use std::alloc::Global;
 use toml::{Table, Value};
@@ -64,7 +67,10 @@ fn read_document(alloc: Global, document: &Table) -> Result<Room, RoomFault>
     ensures refused { IfErr result (λ e. e ≢ RoomFault.Memory → room_of_document (table_view document.now) ≡ Err e) }
 {
     check_version(document)?;
-    if !has_only(document, &["version", "room", "box", "lamp", "task", "limits"]) {
+    if !has_only(
+        document,
+        &["version", "room", "box", "lamp", "task", "limits"],
+    ) {
         return Err(RoomFault::Unknown(Spot::of(Key::Version)));
     }
     let shell = read_shell(document)?;
@@ -100,9 +106,21 @@ fn check_version(document: &Table) -> Result<(), RoomFault>
 fn read_shell(document: &Table) -> Result<Shell, RoomFault>
     ensures { result ≡ shell_of (table_view document.now) }
 {
-    let room = required_table(document, "room", &["size", "reflect", "patch"], Spot::of(Key::Room))?;
+    let room = required_table(
+        document,
+        "room",
+        &["size", "reflect", "patch"],
+        Spot::of(Key::Room),
+    )?;
     let size = required_numbers::<3>(room, "size", 500, 50_000, Spot::of(Key::RoomSize))?;
-    let reflect = optional_numbers::<6>(room, "reflect", [0; 6], 0, 950, Spot::of(Key::RoomReflect))?;
+    let reflect = optional_numbers::<6>(
+        room,
+        "reflect",
+        [0; 6],
+        0,
+        950,
+        Spot::of(Key::RoomReflect),
+    )?;
     let patch = optional_number(room, "patch", 600, 50, 50_000, Spot::of(Key::RoomPatch))?;
     Ok(Shell {
         size: size_from(size),
@@ -116,7 +134,12 @@ fn read_shell(document: &Table) -> Result<Shell, RoomFault>
 fn read_task(document: &Table, room: Size) -> Result<TaskGrid, RoomFault>
     ensures { result ≡ task_of room (table_view document.now) }
 {
-    let task = required_table(document, "task", &["from", "to", "height", "points"], Spot::of(Key::Task))?;
+    let task = required_table(
+        document,
+        "task",
+        &["from", "to", "height", "points"],
+        Spot::of(Key::Task),
+    )?;
     let from = required_numbers::<2>(task, "from", 0, 50_000, Spot::of(Key::TaskFrom))?;
     let to = required_numbers::<2>(task, "to", 0, 50_000, Spot::of(Key::TaskTo))?;
     let height = required_number(task, "height", 0, 50_000, Spot::of(Key::TaskHeight))?;
@@ -169,7 +192,10 @@ fn read_limits(document: &Table) -> Result<Limits, RoomFault>
 {
     match member(document, "limits") {
         Some(value) => read_limits_in(value, Spot::of(Key::Limits)),
-        None => Ok(Limits { average: None, uniformity: None }),
+        None => Ok(Limits {
+            average: None,
+            uniformity: None,
+        }),
     }
 }
 
@@ -179,7 +205,22 @@ fn read_limits_in(value: &Value, spot: Spot) -> Result<Limits, RoomFault>
     ensures { result ≡ limits_in spot (view value.now) }
 {
     let limits = table_with(value, &["average_millilux", "uniformity_permille"], spot)?;
-    let average = number_where_given(limits, "average_millilux", 0, 1_000_000_000, Spot::of(Key::LimitsAverageMillilux))?;
-    let uniformity = number_where_given(limits, "uniformity_permille", 0, 1_000, Spot::of(Key::LimitsUniformityPermille))?;
-    Ok(Limits { average: average.map(u64::from), uniformity })
+    let average = number_where_given(
+        limits,
+        "average_millilux",
+        0,
+        1_000_000_000,
+        Spot::of(Key::LimitsAverageMillilux),
+    )?;
+    let uniformity = number_where_given(
+        limits,
+        "uniformity_permille",
+        0,
+        1_000,
+        Spot::of(Key::LimitsUniformityPermille),
+    )?;
+    Ok(Limits {
+        average: average.map(u64::from),
+        uniformity,
+    })
 }
