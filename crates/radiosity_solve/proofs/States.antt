@@ -195,9 +195,6 @@ upper_in_range s x y shown t x-size y-size ends =
 
 -- ---- near enough
 
-abbrev pub enough : ℕ
-enough = 6871947
-
 pub record IsNearUpper (s : System) (x : List Tick) : Type 0 where
   pub row : (i : ℕ) → i < length s.rows →
       denominator (length s.rows) 68719476736 (high_weight s) * tick_at x i

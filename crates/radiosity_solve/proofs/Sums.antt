@@ -25,10 +25,6 @@ pub total-times : (n c : ℕ) (k f : ℕ → ℕ) → total n (λ j. k j * (c * 
 total-times zero c k f = omega arith
 total-times (suc n) c k f = omega (arith, total-times n c k f)
 
-pub total-add : (n : ℕ) (f g : ℕ → ℕ) → total n (λ j. f j + g j) ≡ total n f + total n g
-total-add zero f g = refl
-total-add (suc n) f g = omega (arith, total-add n f g)
-
 pub total-scale : (n c : ℕ) (f : ℕ → ℕ) → total n (λ j. c * f j) ≡ c * total n f
 total-scale zero c f = omega arith
 total-scale (suc n) c f = omega (arith, total-scale n c f)

@@ -51,11 +51,15 @@ pub record IsAboveEverySolution (s : System) (x : ℕ → ℕ) : Type 0 where
 
 -- ---- the solutions of all lower ends, and of all upper ends
 
+-- the solution of equations in ticks
+abbrev pub ticks_solution : ℕ → (ℕ → ℕ → ℕ) → (ℕ → ℕ) → ℕ → Fraction
+ticks_solution n k d i = solution n (λ i j. ticks (k i j)) (λ i. ticks (d i)) i
+
 abbrev pub lower_solution : System → ℕ → Fraction
-lower_solution s i = solution (length s.rows) (λ i j. ticks (low_weight s i j)) (λ i. ticks (low_direct s i)) i
+lower_solution s i = ticks_solution (length s.rows) (low_weight s) (low_direct s) i
 
 abbrev pub upper_solution : System → ℕ → Fraction
-upper_solution s i = solution (length s.rows) (λ i j. ticks (high_weight s i j)) (λ i. ticks (high_direct s i)) i
+upper_solution s i = ticks_solution (length s.rows) (high_weight s) (high_direct s) i
 
 -- 1/10,000 lux
 abbrev pub ten_thousandth : Fraction

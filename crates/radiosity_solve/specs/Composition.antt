@@ -7,11 +7,7 @@ use Rattle.fx_base.specs.Units.{ticks}
 use Rattle.interval_system.specs.Equations.{RowsBelowOne, solution}
 use Rattle.interval_system.specs.System.{System, IsSystem, NoneHeavy, low_weight, high_weight, low_direct, high_direct}
 use Rattle.radiosity_solve.specs.Shown.{IsShownLower, IsShownUpper}
-use Rattle.radiosity_solve.specs.Bounds.{tick_at, IsBelowEverySolution, IsAboveEverySolution}
-
--- the solution of the ticks themselves
-abbrev pub ticks_solution : ℕ → (ℕ → ℕ → ℕ) → (ℕ → ℕ) → ℕ → Fraction
-ticks_solution n k d i = solution n (λ i j. ticks (k i j)) (λ i. ticks (d i)) i
+use Rattle.radiosity_solve.specs.Bounds.{tick_at, ticks_solution, IsBelowEverySolution, IsAboveEverySolution}
 
 -- a lower claim shown by lower ends is at most the solution of any equations that are at least those ends
 abbrev pub LowerIsBelow : Type 0
