@@ -46,9 +46,9 @@ sums_above number vs covered f same most zero l = no_ticks.0
 sums_above number vs covered f same most (suc k) l =
     let h : k < length vs = omega arith in
     rw (← add-one, sum_by_more (open_number number) vs k no_point h)
-        (le_trans_f (ticks_split (sum_by (open_number number) (take k vs)) (open_number number (slice_index_or vs k no_point)))
-            (add_le_f (sums_above number vs covered f same most k (omega arith))
-                (term_above (slice_index_or vs k no_point).covered (covered k) (number (slice_index_or vs k no_point)) (f k) (same k no_point h) (most k no_point h))))
+    (le_trans_f (ticks_split (sum_by (open_number number) (take k vs)) (open_number number (slice_index_or vs k no_point)))
+    (add_le_f (sums_above number vs covered f same most k (omega arith))
+    (term_above (slice_index_or vs k no_point).covered (covered k) (number (slice_index_or vs k no_point)) (f k) (same k no_point h) (most k no_point h))))
 
 pub sums_below : (number : PointValue → ℕ) (vs : List PointValue) (covered : ℕ → Bool) (f : ℕ → Fraction) → AreCoveredBy vs covered
     → ((g : ℕ) (d : PointValue) → g < length vs → covered g ≡ false → f g ≤ᶠ ticks (number (slice_index_or vs g d)))
@@ -58,9 +58,9 @@ sums_below number vs covered f same most zero l = no_ticks.1
 sums_below number vs covered f same most (suc k) l =
     let h : k < length vs = omega arith in
     rw (← add-one, sum_by_more (open_number number) vs k no_point h)
-        (le_trans_f (add_le_f (sums_below number vs covered f same most k (omega arith))
-                (term_below (slice_index_or vs k no_point).covered (covered k) (number (slice_index_or vs k no_point)) (f k) (same k no_point h) (most k no_point h)))
-            (ticks_join (sum_by (open_number number) (take k vs)) (open_number number (slice_index_or vs k no_point))))
+    (le_trans_f (add_le_f (sums_below number vs covered f same most k (omega arith))
+    (term_below (slice_index_or vs k no_point).covered (covered k) (number (slice_index_or vs k no_point)) (f k) (same k no_point h) (most k no_point h)))
+    (ticks_join (sum_by (open_number number) (take k vs)) (open_number number (slice_index_or vs k no_point))))
 
 -- ---- how many aren't covered
 
@@ -110,5 +110,5 @@ pub quotient_near_below : (t c : ℕ) (s : Fraction) → 0 < c → ticks t ≤�
 quotient_near_below t c s p h =
     let q = div_ceil t c in
     let under : ticks (q - 1) ≤ᶠ (s /ᶠ whole c) =
-        le_over s (whole c) (ticks (q - 1)) (whole_positive c p) (le_trans_f (times_below (q - 1) c t (less_one q c t ((div_ceil_times t c p).1))) h) in
+    le_over s (whole c) (ticks (q - 1)) (whole_positive c p) (le_trans_f (times_below (q - 1) c t (less_one q c t ((div_ceil_times t c p).1))) h) in
     le_trans_f (ticks_le q ((q - 1) + 1) (omega arith)) (le_trans_f (ticks_split (q - 1) 1) (add_le_f under (le_refl_f (ticks 1))))

@@ -49,7 +49,7 @@ unfolding falloff
 falloff_order m s a r i j d e p h g =
     over_le_any (i *ᶠ ratio m 1000 *ᶠ whole (a * 4000000) /ᶠ (whole r *ᶠ d)) (whole s) (j *ᶠ ratio m 1000 *ᶠ whole (a * 4000000) /ᶠ (whole r *ᶠ e)) (whole s)
     (over_le_any (i *ᶠ ratio m 1000 *ᶠ whole (a * 4000000)) (whole r *ᶠ d) (j *ᶠ ratio m 1000 *ᶠ whole (a * 4000000)) (whole r *ᶠ e)
-        (mul_le_f (mul_le_f h (le_refl_f (ratio m 1000))) (le_refl_f (whole (a * 4000000)))) (mul_le_f (le_refl_f (whole r)) g) (product_nothing r d e p))
+    (mul_le_f (mul_le_f h (le_refl_f (ratio m 1000))) (le_refl_f (whole (a * 4000000)))) (mul_le_f (le_refl_f (whole r)) g) (product_nothing r d e p))
     (le_refl_f (whole s)) (λ z. z)
 
 fallen_order : (n m s a r : ℕ) (i : Interval) → InOrder i → InOrder (fallen n m s a r i)
@@ -91,7 +91,7 @@ pub loose_lamp_order : (n : ℕ) (p : Place) (face : Face) (l : Lamp) → InOrde
 unfolding loose_lamp_light
 loose_lamp_order n p face l = sum_to_le (part_count l) (λ k. (loose_share n l (lamp_place l k) p face true).lo) (λ k. (loose_share n l (lamp_place l k) p face true).hi)
     (λ k h. loosened_order (share_of n (loose_intensity l.shine) l (lamp_place l k) p face true)
-        (share_order n (loose_intensity l.shine) l (lamp_place l k) p face true (outward_order (half_power 30) (intensity l.shine) (intensity_order l.shine))))
+    (share_order n (loose_intensity l.shine) l (lamp_place l k) p face true (outward_order (half_power 30) (intensity l.shine) (intensity_order l.shine))))
 
 pub direct_order : (n count : ℕ) (lamps : List Lamp) (p : Place) (face : Face) → InOrder (light_of_first n count lamps p face)
 unfolding light_of_first

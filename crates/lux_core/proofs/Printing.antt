@@ -25,24 +25,24 @@ below_cents t = le_ratio (div_ceil (t * 100) 68719476736) 100 (ticks t) (omega a
 pub cents_near : (t : ℕ) → ticks t ≤ᶠ (ratio (t * 100 / 68719476736) 100 +ᶠ ratio 1 100)
 unfolding ticks ◌+ᶠ◌
 cents_near t = record {
-    cross = rw (ratio_num (t * 100 / 68719476736) 100 (omega arith), ratio_den (t * 100 / 68719476736) 100 (omega arith), ratio_num 1 100 (omega arith), ratio_den 1 100 (omega arith))
-        (let z : 0 < 68719476736 = omega arith in let h = lt-div-mul-add {a = t * 100} z in omega arith);
-  }
+  cross = rw (ratio_num (t * 100 / 68719476736) 100 (omega arith), ratio_den (t * 100 / 68719476736) 100 (omega arith), ratio_num 1 100 (omega arith), ratio_den 1 100 (omega arith))
+      (let z : 0 < 68719476736 = omega arith in let h = lt-div-mul-add {a = t * 100} z in omega arith);
+}
 
 pub near_cents : (t : ℕ) → ratio (div_ceil (t * 100) 68719476736) 100 ≤ᶠ (ticks t +ᶠ ratio 1 100)
 unfolding ticks ◌+ᶠ◌
 near_cents t = record {
-    cross = rw (ratio_num (div_ceil (t * 100) 68719476736) 100 (omega arith), ratio_den (div_ceil (t * 100) 68719476736) 100 (omega arith), ratio_num 1 100 (omega arith), ratio_den 1 100 (omega arith))
-        (let h = (div_ceil_times (t * 100) 68719476736 (omega arith)).1 in omega arith);
-  }
+  cross = rw (ratio_num (div_ceil (t * 100) 68719476736) 100 (omega arith), ratio_den (div_ceil (t * 100) 68719476736) 100 (omega arith), ratio_num 1 100 (omega arith), ratio_den 1 100 (omega arith))
+      (let h = (div_ceil_times (t * 100) 68719476736 (omega arith)).1 in omega arith);
+}
 
 -- ---- a printed interval against the interval of its ticks
 
 pub printed_meets : (low high : ℕ) (v : Interval) → Meets (record { lo = ticks low; hi = ticks high }) v → Meets (said 100 (in_cents low high)) v
 printed_meets low high v m = record {
-    above = le_trans_f (cents_below low) m.above;
-    below = le_trans_f m.below (below_cents high);
-  }
+  above = le_trans_f (cents_below low) m.above;
+  below = le_trans_f m.below (below_cents high);
+}
 
 cent_small : (ratio 1 100 +ᶠ ticks 1) ≤ᶠ ratio 12 1000
 unfolding ratio ticks ◌+ᶠ◌
@@ -61,6 +61,6 @@ up_to_other h t g = up_to_twelve (ratio (div_ceil (t * 100) 68719476736) 100) (h
 pub printed_near : (low high : ℕ) (v : Interval) → v.lo ≤ᶠ (ticks low +ᶠ ticks 1) → ticks high ≤ᶠ (v.hi +ᶠ ticks 1)
     → LiesIn (said 100 (in_cents low high)) (outward (ratio 12 1000) v)
 printed_near low high v below above = record {
-    lower = sub_le_f v.lo (ratio 12 1000) (up_to_twelve v.lo (ticks low) (ratio (low * 100 / 68719476736) 100) below (cents_near low));
-    upper = up_to_other v.hi high above;
-  }
+  lower = sub_le_f v.lo (ratio 12 1000) (up_to_twelve v.lo (ticks low) (ratio (low * 100 / 68719476736) 100) below (cents_near low));
+  upper = up_to_other v.hi high above;
+}

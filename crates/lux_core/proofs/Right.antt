@@ -43,9 +43,9 @@ pub record AreNear (y : Grid) (vs : List PointValue) : Type 0 where
 pub average_meets : (x : Grid) (vs : List PointValue) → AreMeeting x vs → 0 < open_total vs → Meets (record { lo = ticks (average_low vs); hi = ticks (average_high vs) }) (average x)
 unfolding average
 average_meets x vs m some = rw m.count (record {
-    above = mean_above vs x.covered (λ g. (x.value g).hi) m.covered some (λ g d l o. (m.meets g d l).above);
-    below = mean_below vs x.covered (λ g. (x.value g).lo) m.covered some (λ g d l o. (m.meets g d l).below);
-  })
+  above = mean_above vs x.covered (λ g. (x.value g).hi) m.covered some (λ g d l o. (m.meets g d l).above);
+  below = mean_below vs x.covered (λ g. (x.value g).lo) m.covered some (λ g d l o. (m.meets g d l).below);
+})
 
 pub average_near_low : (y : Grid) (vs : List PointValue) → AreNear y vs → 0 < open_total vs → (average y).lo ≤ᶠ (ticks (average_low vs) +ᶠ ticks 1)
 unfolding average
@@ -99,9 +99,9 @@ down_uniformity x vs a n m some is d =
     at_test ((average x).lo.num == 0) (whole 1) (lesser (whole 1) (least x.covered (λ g. (x.value g).hi) x.points /ᶠ (average x).lo)) (ratio n 1000)
     (λ t. down_most a (average_high vs) n d)
     (λ t. down_meets a (average_high vs) n (least x.covered (λ g. (x.value g).hi) x.points) (average x).lo d
-        (rw m.count (least_above lower_end vs x.covered (λ g. (x.value g).hi) a m.covered some is (λ g e l o. (m.meets g e l).above)))
-        (average_meets x vs m some).below
-        (grind (arith, nat_tests)))
+    (rw m.count (least_above lower_end vs x.covered (λ g. (x.value g).hi) a m.covered some is (λ g e l o. (m.meets g e l).above)))
+    (average_meets x vs m some).below
+    (grind (arith, nat_tests)))
 
 order_mean : (x : Grid) (vs : List PointValue) → AreMeeting x vs → 0 < open_total vs → least x.covered (λ g. (x.value g).lo) x.points ≤ᶠ (average x).hi
 unfolding average
@@ -170,5 +170,5 @@ up_uniformity_near y vs a n m some is u one =
     let p : 0 < (average y).lo.num = positive_above one_positive one in
     let e : ((average y).lo.num == 0) ≡ false = grind (arith, nat_tests) in
     rw e (up_near a (average_low vs) n (least y.covered (λ g. (y.value g).hi) y.points) (average y).lo u
-        (rw m.count (least_above upper_end vs y.covered (λ g. (y.value g).hi) a m.covered some is (λ g f l o. (m.near g f l).upper)))
-        (average_near_low y vs m some) one)
+    (rw m.count (least_above upper_end vs y.covered (λ g. (y.value g).hi) a m.covered some is (λ g f l o. (m.near g f l).upper)))
+    (average_near_low y vs m some) one)

@@ -44,19 +44,19 @@ all_open room vs are some =
 
 pub meeting : (room : Room) (vs : List PointValue) (n : ℕ) → ArePoints room vs → AreMeeting (lit n room) vs
 meeting room vs n are = record {
-    count = sym are.count;
-    covered = λ g d l. (are.each g d l).uncovered;
-    meets = λ g d l. (are.each g d l).meets n;
-    order = λ g. direct_order n (length room.lamps) room.lamps (point_place room.task g) Up;
-  }
+  count = sym are.count;
+  covered = λ g d l. (are.each g d l).uncovered;
+  meets = λ g d l. (are.each g d l).meets n;
+  order = λ g. direct_order n (length room.lamps) room.lamps (point_place room.task g) Up;
+}
 
 pub near : (room : Room) (vs : List PointValue) (n : ℕ) → ArePoints room vs → AreNear (loose n room) vs
 near room vs n are = record {
-    count = sym are.count;
-    covered = λ g d l. (are.each g d l).uncovered;
-    near = λ g d l. (are.each g d l).near n;
-    order = λ g. loose_direct_order n (length room.lamps) room.lamps (point_place room.task g) Up;
-  }
+  count = sym are.count;
+  covered = λ g d l. (are.each g d l).uncovered;
+  near = λ g d l. (are.each g d l).near n;
+  order = λ g. loose_direct_order n (length room.lamps) room.lamps (point_place room.task g) Up;
+}
 
 -- ---- the printed values of the points
 
@@ -74,9 +74,9 @@ printed_past (v ∷ vs) (suc g) l = printed_past vs g (omega arith)
 each_printed : (P : Option Printed → Type 0) (vs : List PointValue) (g : ℕ) → P None
     → (g < length vs → P (printed_value (slice_index_or vs g no_point))) → P (slice_index_or (map printed_value vs) g None)
 each_printed P vs g none some = elim (cases_lt g (length vs)) [
-    inl l ↦ subst P (sym (printed_within vs g l)) (some l)
+  | inl l ↦ subst P (sym (printed_within vs g l)) (some l)
   | inr h ↦ subst P (sym (printed_past vs g h)) none
-  ]
+]
 
 open_value : (v : PointValue) → v.covered ≡ false → printed_value v ≡ Some (in_cents (natural v.value.lo) (natural v.value.hi))
 open_value v e = rw e refl
@@ -92,17 +92,17 @@ points_meet : (room : Room) (vs : List PointValue) → ArePoints room vs → (g 
 points_meet room vs are g =
     let P : Option Printed → Type 0 = λ o. IfSome o (λ e. AtEachDepth (λ n. Meets (said 100 e) ((lit n room).value g))) in
     each_printed P vs g tt (λ l. let v = are.each g no_point l in
-        subst P (sym (open_value (slice_index_or vs g no_point) v.uncovered)) (λ n h. printed_meets (natural (slice_index_or vs g no_point).value.lo) (natural (slice_index_or vs g no_point).value.hi) ((lit n room).value g) (v.meets n)))
+    subst P (sym (open_value (slice_index_or vs g no_point) v.uncovered)) (λ n h. printed_meets (natural (slice_index_or vs g no_point).value.lo) (natural (slice_index_or vs g no_point).value.hi) ((lit n room).value g) (v.meets n)))
 
 points_near : (room : Room) (vs : List PointValue) → ArePoints room vs → (g : ℕ)
     → IfSome (slice_index_or (map printed_value vs) g None) (λ e. AtEachDepth (λ n. LiesIn (said 100 e) (outward (ratio 12 1000) ((loose n room).value g))))
 points_near room vs are g =
     let P : Option Printed → Type 0 = λ o. IfSome o (λ e. AtEachDepth (λ n. LiesIn (said 100 e) (outward (ratio 12 1000) ((loose n room).value g)))) in
     each_printed P vs g tt (λ l. let v = are.each g no_point l in
-        subst P (sym (open_value (slice_index_or vs g no_point) v.uncovered))
-            (λ n h. printed_near (natural (slice_index_or vs g no_point).value.lo) (natural (slice_index_or vs g no_point).value.hi) ((loose n room).value g)
-                (le_trans_f (v.near n).lower (le_add_f (ticks (natural (slice_index_or vs g no_point).value.lo)) (ticks 1)))
-                (le_trans_f (v.near n).upper (le_add_f ((loose n room).value g).hi (ticks 1)))))
+    subst P (sym (open_value (slice_index_or vs g no_point) v.uncovered))
+    (λ n h. printed_near (natural (slice_index_or vs g no_point).value.lo) (natural (slice_index_or vs g no_point).value.hi) ((loose n room).value g)
+    (le_trans_f (v.near n).lower (le_add_f (ticks (natural (slice_index_or vs g no_point).value.lo)) (ticks 1)))
+    (le_trans_f (v.near n).upper (le_add_f ((loose n room).value g).hi (ticks 1)))))
 
 -- the average's lower end is at most its upper end
 ends_in_order : (room : Room) (vs : List PointValue) → ArePoints room vs → 0 < open_total vs → average_low vs ≤ average_high vs
@@ -171,9 +171,9 @@ joined_rest side e (Some k) low h m f = let g : min (side e) k ≡ low = cc in l
 joined_either : (side : Printed → ℕ) (e : Printed) (o : Option ℕ) (low : ℕ) → joined side e o ≡ Some low → (side e ≡ low) ⊎ (o ≡ Some low)
 joined_either side e None low h = inl (cc)
 joined_either side e (Some m) low h = let g : min (side e) m ≡ low = cc in elim (cases_lt (side e) m) [
-    inl l ↦ inl (omega arith)
+  | inl l ↦ inl (omega arith)
   | inr k ↦ inr (ap (λ (z : ℕ). let o : Option ℕ = Some z in o) (omega arith))
-  ]
+]
 
 joined_some : (side : Printed → ℕ) (e : Printed) (o : Option ℕ) → (m : ℕ) × (joined side e o ≡ Some m)
 joined_some side e None = (side e, refl)
@@ -202,9 +202,9 @@ least_end_attained : (side : Printed → ℕ) (points : List (Option Printed)) (
 least_end_attained side [] low h = absurd (cc)
 least_end_attained side (None ∷ more) low h = let w = least_end_attained side more low h in (suc (w.0), w.1, w.2, w.3)
 least_end_attained side (Some d ∷ more) low h = elim (joined_either side d (least_end side more) low h) [
-    inl e ↦ (0, d, refl, e)
+  | inl e ↦ (0, d, refl, e)
   | inr o ↦ let w = least_end_attained side more low o in (suc (w.0), w.1, w.2, w.3)
-  ]
+]
 
 some_same : (d e : Printed) → Some d ≡ Some e → d ≡ e
 some_same d e h = cc
@@ -222,7 +222,7 @@ least_low_printed vs a low is e =
     let w = is.attained no_point in
     let v = slice_index_or vs (w.0) no_point in
     let h : low ≤ lower_end v * 100 / 68719476736 =
-        least_end_below (λ (d : Printed). d.lo) (map printed_value vs) low e (w.0) (in_cents (lower_end v) (upper_end v)) (printed_open vs (w.0) (w.1) (w.2)) in
+    least_end_below (λ (d : Printed). d.lo) (map printed_value vs) low e (w.0) (in_cents (lower_end v) (upper_end v)) (printed_open vs (w.0) (w.1) (w.2)) in
     let k = div-mul-le_self (lower_end v * 100) 68719476736 in
     let i = w.3 in omega arith
 
@@ -232,39 +232,39 @@ least_high_printed : (vs : List PointValue) (b high : ℕ) → ((g : ℕ) → g 
 least_high_printed vs b high bare is e =
     let w = least_end_attained (λ (d : Printed). d.hi) (map printed_value vs) high e in
     elim (cases_lt (w.0) (length vs)) [
-      inl l ↦ (
-        let v = slice_index_or vs (w.0) no_point in
-        let same : w.1 ≡ in_cents (lower_end v) (upper_end v) = some_same (w.1) (in_cents (lower_end v) (upper_end v)) (sym (w.2) ∙ printed_open vs (w.0) l (bare (w.0) l)) in
-        let i : (w.1).hi ≡ div_ceil (upper_end v * 100) 68719476736 = ap (λ (d : Printed). d.hi) same in
-        let j = (div_ceil_times (upper_end v * 100) 68719476736 (omega arith)).0 in
-        let k = is.below (w.0) no_point l (bare (w.0) l) in
-        let m = w.3 in omega arith)
-    | inr g ↦ absurd (none_some (w.1) (sym (printed_past vs (w.0) g) ∙ w.2))
+      | inl l ↦ (
+          let v = slice_index_or vs (w.0) no_point in
+          let same : w.1 ≡ in_cents (lower_end v) (upper_end v) = some_same (w.1) (in_cents (lower_end v) (upper_end v)) (sym (w.2) ∙ printed_open vs (w.0) l (bare (w.0) l)) in
+          let i : (w.1).hi ≡ div_ceil (upper_end v * 100) 68719476736 = ap (λ (d : Printed). d.hi) same in
+          let j = (div_ceil_times (upper_end v * 100) 68719476736 (omega arith)).0 in
+          let k = is.below (w.0) no_point l (bare (w.0) l) in
+          let m = w.3 in omega arith)
+      | inr g ↦ absurd (none_some (w.1) (sym (printed_past vs (w.0) g) ∙ w.2))
     ]
 
 -- ---- the whole promise
 
 fits : (room : Room) (vs : List PointValue) (r : Report) → ArePoints room vs → IsReportOf room.task.nx vs r → Fits room r
 fits room vs r are of = record {
-    columns = of.columns_are;
-    points = rw of.points_are (length-map vs ∙ are.count);
-    covered = rw of.points_are (λ g l. let h : g < length vs = omega (arith, l, length-map vs) in
-        let e = printed_open vs g h (are.each g no_point h).uncovered in rw e ((λ a. sym a), (λ b. sym b)));
-  }
+  columns = of.columns_are;
+  points = rw of.points_are (length-map vs ∙ are.count);
+  covered = rw of.points_are (λ g l. let h : g < length vs = omega (arith, l, length-map vs) in
+      let e = printed_open vs g h (are.each g no_point h).uncovered in rw e ((λ a. sym a), (λ b. sym b)));
+}
 
 meets : (room : Room) (vs : List PointValue) (r : Report) → ArePoints room vs → 0 < open_total vs → IsReportOf room.task.nx vs r → MeetsValues room r
 meets room vs r are some of = record {
-    each_point = λ g. rw of.points_are (points_meet room vs are g);
-    the_average = λ n h. rw of.average_is (printed_meets (average_low vs) (average_high vs) (average (lit n room)) (average_meets (lit n room) vs (meeting room vs n are) some));
-    the_uniformity = some_case r.uniformity (average_low vs ≡ 0) (λ u. IsUniformity vs u.lo u.hi) (λ e. AtEachDepth (λ n. Meets (said 1000 e) (uniformity (lit n room)))) of.uniformity_is
-        (λ u i n h. let s = shares_of room vs u.lo u.hi are some i in record {
-            above = down_uniformity (lit n room) vs s.a u.lo (meeting room vs n are) some s.least_low s.down;
-            below = up_uniformity (lit n room) vs s.b u.hi (meeting room vs n are) some s.positive s.least_high s.up;
-          });
-    positive = some_case r.uniformity (average_low vs ≡ 0) (λ u. IsUniformity vs u.lo u.hi) (λ e. AtEachDepth (λ n. whole 0 <ᶠ (average (lit n room)).hi)) of.uniformity_is
-        (λ u i n h. positive_average (lit n room) vs (meeting room vs n are) some i.positive);
-    none = none_case r.uniformity (average_low vs ≡ 0) (r.average.lo ≡ 0) (λ u. IsUniformity vs u.lo u.hi) of.uniformity_is (λ z. rw (of.average_is, z) refl);
-  }
+  each_point = λ g. rw of.points_are (points_meet room vs are g);
+  the_average = λ n h. rw of.average_is (printed_meets (average_low vs) (average_high vs) (average (lit n room)) (average_meets (lit n room) vs (meeting room vs n are) some));
+  the_uniformity = some_case r.uniformity (average_low vs ≡ 0) (λ u. IsUniformity vs u.lo u.hi) (λ e. AtEachDepth (λ n. Meets (said 1000 e) (uniformity (lit n room)))) of.uniformity_is
+      (λ u i n h. let s = shares_of room vs u.lo u.hi are some i in record {
+        above = down_uniformity (lit n room) vs s.a u.lo (meeting room vs n are) some s.least_low s.down;
+        below = up_uniformity (lit n room) vs s.b u.hi (meeting room vs n are) some s.positive s.least_high s.up;
+      });
+  positive = some_case r.uniformity (average_low vs ≡ 0) (λ u. IsUniformity vs u.lo u.hi) (λ e. AtEachDepth (λ n. whole 0 <ᶠ (average (lit n room)).hi)) of.uniformity_is
+      (λ u i n h. positive_average (lit n room) vs (meeting room vs n are) some i.positive);
+  none = none_case r.uniformity (average_low vs ≡ 0) (r.average.lo ≡ 0) (λ u. IsUniformity vs u.lo u.hi) of.uniformity_is (λ z. rw (of.average_is, z) refl);
+}
 
 lower_ends : (vs : List PointValue) (a n low : ℕ) → IsLeast lower_end vs a → IsDown a (average_high vs) n → 0 < average_low vs → average_low vs ≤ average_high vs
     → least_end (λ (d : Printed). d.lo) (map printed_value vs) ≡ Some low → ratio low (div_ceil (average_high vs * 100) 68719476736) ≤ᶠ (ratio n 1000 +ᶠ ratio 1 1000)
@@ -282,28 +282,28 @@ no_more t e = rw e (record { cross = omega arith })
 
 narrow : (room : Room) (vs : List PointValue) (r : Report) → ArePoints room vs → 0 < open_total vs → IsReportOf room.task.nx vs r → IsNarrow room r
 narrow room vs r are some of = record {
-    each_point = λ g. rw of.points_are (points_near room vs are g);
-    the_average = λ n h. rw of.average_is (printed_near (average_low vs) (average_high vs) (average (loose n room)) (average_near_low (loose n room) vs (near room vs n are) some) (average_near_high (loose n room) vs (near room vs n are) some));
-    none = none_case r.uniformity (average_low vs ≡ 0) (AtEachDepth (λ n. (average (loose n room)).lo <ᶠ half_power 20)) (λ u. IsUniformity vs u.lo u.hi) of.uniformity_is
-        (λ z n h. le_lt_trans_f (le_trans_f (average_near_low (loose n room) vs (near room vs n are) some) (no_more (average_low vs) z)) one_tick);
-    the_uniformity = some_case r.uniformity (average_low vs ≡ 0) (λ u. IsUniformity vs u.lo u.hi)
-        (λ e. AtEachDepth (λ n. whole 1 ≤ᶠ (average (loose n room)).lo → LiesIn (said 1000 e) (outward (ratio 2 1000) (uniformity (loose n room))))) of.uniformity_is
-        (λ u i n h one. let s = shares_of room vs u.lo u.hi are some i in record {
-            lower = down_uniformity_near (loose n room) vs s.a u.lo (near room vs n are) some s.order s.least_low s.down one;
-            upper = up_uniformity_near (loose n room) vs s.b u.hi (near room vs n are) some s.least_high s.up one;
-          });
-    lower_by_ends = some_case r.uniformity (average_low vs ≡ 0) (λ u. IsUniformity vs u.lo u.hi)
-        (λ e. IfSome (least_end (λ (d : Printed). d.lo) r.points) (λ low. ratio low r.average.hi ≤ᶠ (ratio e.lo 1000 +ᶠ ratio 1 1000))) of.uniformity_is
-        (λ u i. let s = shares_of room vs u.lo u.hi are some i in
-            rw (of.points_are, of.average_is) (if_some (least_end (λ (d : Printed). d.lo) (map printed_value vs)) (λ low. ratio low (div_ceil (average_high vs * 100) 68719476736) ≤ᶠ (ratio u.lo 1000 +ᶠ ratio 1 1000))
-                (λ low e. lower_ends vs s.a u.lo low s.least_low s.down s.positive s.order e)));
-    upper_by_ends = some_case r.uniformity (average_low vs ≡ 0) (λ u. IsUniformity vs u.lo u.hi)
-        (λ e. IfSome (least_end (λ (d : Printed). d.hi) r.points) (λ high. 0 < r.average.lo → ratio e.hi 1000 ≤ᶠ (ratio high r.average.lo +ᶠ ratio 1 1000))) of.uniformity_is
-        (λ u i. let s = shares_of room vs u.lo u.hi are some i in
-            rw (of.points_are, of.average_is) (if_some (least_end (λ (d : Printed). d.hi) (map printed_value vs)) (λ high. 0 < average_low vs * 100 / 68719476736 → ratio u.hi 1000 ≤ᶠ (ratio high (average_low vs * 100 / 68719476736) +ᶠ ratio 1 1000))
-                (λ high e p. up_by_ends s.b (average_low vs) u.hi high (average_low vs * 100 / 68719476736) s.up
-                    (least_high_printed vs s.b high (λ g l. (are.each g no_point l).uncovered) s.least_high e) (div-mul-le_self (average_low vs * 100) 68719476736) p)));
-  }
+  each_point = λ g. rw of.points_are (points_near room vs are g);
+  the_average = λ n h. rw of.average_is (printed_near (average_low vs) (average_high vs) (average (loose n room)) (average_near_low (loose n room) vs (near room vs n are) some) (average_near_high (loose n room) vs (near room vs n are) some));
+  none = none_case r.uniformity (average_low vs ≡ 0) (AtEachDepth (λ n. (average (loose n room)).lo <ᶠ half_power 20)) (λ u. IsUniformity vs u.lo u.hi) of.uniformity_is
+      (λ z n h. le_lt_trans_f (le_trans_f (average_near_low (loose n room) vs (near room vs n are) some) (no_more (average_low vs) z)) one_tick);
+  the_uniformity = some_case r.uniformity (average_low vs ≡ 0) (λ u. IsUniformity vs u.lo u.hi)
+      (λ e. AtEachDepth (λ n. whole 1 ≤ᶠ (average (loose n room)).lo → LiesIn (said 1000 e) (outward (ratio 2 1000) (uniformity (loose n room))))) of.uniformity_is
+      (λ u i n h one. let s = shares_of room vs u.lo u.hi are some i in record {
+        lower = down_uniformity_near (loose n room) vs s.a u.lo (near room vs n are) some s.order s.least_low s.down one;
+        upper = up_uniformity_near (loose n room) vs s.b u.hi (near room vs n are) some s.least_high s.up one;
+      });
+  lower_by_ends = some_case r.uniformity (average_low vs ≡ 0) (λ u. IsUniformity vs u.lo u.hi)
+      (λ e. IfSome (least_end (λ (d : Printed). d.lo) r.points) (λ low. ratio low r.average.hi ≤ᶠ (ratio e.lo 1000 +ᶠ ratio 1 1000))) of.uniformity_is
+      (λ u i. let s = shares_of room vs u.lo u.hi are some i in
+      rw (of.points_are, of.average_is) (if_some (least_end (λ (d : Printed). d.lo) (map printed_value vs)) (λ low. ratio low (div_ceil (average_high vs * 100) 68719476736) ≤ᶠ (ratio u.lo 1000 +ᶠ ratio 1 1000))
+      (λ low e. lower_ends vs s.a u.lo low s.least_low s.down s.positive s.order e)));
+  upper_by_ends = some_case r.uniformity (average_low vs ≡ 0) (λ u. IsUniformity vs u.lo u.hi)
+      (λ e. IfSome (least_end (λ (d : Printed). d.hi) r.points) (λ high. 0 < r.average.lo → ratio e.hi 1000 ≤ᶠ (ratio high r.average.lo +ᶠ ratio 1 1000))) of.uniformity_is
+      (λ u i. let s = shares_of room vs u.lo u.hi are some i in
+      rw (of.points_are, of.average_is) (if_some (least_end (λ (d : Printed). d.hi) (map printed_value vs)) (λ high. 0 < average_low vs * 100 / 68719476736 → ratio u.hi 1000 ≤ᶠ (ratio high (average_low vs * 100 / 68719476736) +ᶠ ratio 1 1000))
+      (λ high e p. up_by_ends s.b (average_low vs) u.hi high (average_low vs * 100 / 68719476736) s.up
+      (least_high_printed vs s.b high (λ g l. (are.each g no_point l).uncovered) s.least_high e) (div-mul-le_self (average_low vs * 100) 68719476736) p)));
+}
 
 pub is_right : (room : Room) (vs : List PointValue) (r : Report) → ArePoints room vs → 0 < open_total vs → IsReportOf room.task.nx vs r → IsRight room r
 is_right room vs r are some of = record { fits = fits room vs r are of; meets = meets room vs r are some of; narrow = narrow room vs r are some of }

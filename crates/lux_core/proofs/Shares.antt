@@ -45,8 +45,8 @@ pub is_up : (a b : ℕ) → 0 < b → IsUp a b (min (div_ceil (a * 1000) b) 1000
 is_up a b p =
     let f = div_ceil_times (a * 1000) b p in
     elim (least_of (div_ceil (a * 1000) b) 1000) [
-      inl e ↦ rw e (up_exact a b (div_ceil (a * 1000) b) (f.0) (f.1) e)
-    | inr e ↦ rw (e.0) (up_limit a b (div_ceil (a * 1000) b) (f.1) (e.1))
+      | inl e ↦ rw e (up_exact a b (div_ceil (a * 1000) b) (f.0) (f.1) e)
+      | inr e ↦ rw (e.0) (up_limit a b (div_ceil (a * 1000) b) (f.1) (e.1))
     ]
 
 -- ---- meeting
@@ -76,9 +76,9 @@ down_most a b n d = le_trans_f (ratio_le_ratio n 1000 1000 1000 (omega arith) (o
 -- the upper thousandths are at least the quotient of what is at most a and at least b
 pub up_meets : (a b n : ℕ) (l h : Fraction) → IsUp a b n → l ≤ᶠ ticks a → ticks b ≤ᶠ h → 0 < h.num → l ≤ᶠ h → (l /ᶠ h) ≤ᶠ ratio n 1000
 up_meets a b n l h u below above p order = elim u.over [
-    inl e ↦ over_below l h (ratio n 1000) p (rw e (le_trans_f order (le_trans_f (le_one_mul_f h) (mul_le_f (thousand_one.0) (le_refl_f h)))))
+  | inl e ↦ over_below l h (ratio n 1000) p (rw e (le_trans_f order (le_trans_f (le_one_mul_f h) (mul_le_f (thousand_one.0) (le_refl_f h)))))
   | inr g ↦ over_below l h (ratio n 1000) p (le_trans_f below (le_trans_f (up_cross a b n g) (mul_le_f (le_refl_f (ratio n 1000)) above)))
-  ]
+]
 
 -- ---- nearness
 
@@ -104,7 +104,7 @@ pub down_near : (a b n : ℕ) (l h : Fraction) → IsDown a b n → l ≤ᶠ tic
 down_near a b n l h d below near p order pb half =
     let most : (l /ᶠ h) ≤ᶠ whole 1 = over_below l h (whole 1) p (le_trans_f order (le_one_mul_f h)) in
     let steady : (l /ᶠ h) ≤ᶠ ((ticks a /ᶠ ticks b) +ᶠ (whole 4 *ᶠ ticks 1)) =
-        quotient_near (l /ᶠ h) l h (ticks a) (ticks b) (ticks 1) (ticks_positive b pb) most (over_mul_le l h p) (le_trans_f below (le_add_f (ticks a) (ticks 1))) near half in
+    quotient_near (l /ᶠ h) l h (ticks a) (ticks b) (ticks 1) (ticks_positive b pb) most (over_mul_le l h p) (le_trans_f below (le_add_f (ticks a) (ticks 1))) near half in
     let printed : (ticks a /ᶠ ticks b) ≤ᶠ ratio (n + 1) 1000 = over_below (ticks a) (ticks b) (ratio (n + 1) 1000) (ticks_positive b pb) (up_cross a b (n + 1) d.over) in
     sub_le_f (l /ᶠ h) (ratio 2 1000) (to_two n (l /ᶠ h) (le_trans_f steady (add_le_f printed (le_refl_f (whole 4 *ᶠ ticks 1)))))
 
@@ -134,12 +134,12 @@ up_near a b n l h u above near one =
     let p : 0 < h.num = positive_above one_positive one in
     let under : ratio (n - 1) 1000 ≤ᶠ whole 1 = le_trans_f (ratio_le_ratio (n - 1) 1000 1000 1000 (omega arith) (omega arith) (let m = u.most in omega arith)) (thousand_one.1) in
     let steady : ratio (n - 1) 1000 ≤ᶠ ((l /ᶠ h) +ᶠ (whole 4 *ᶠ ticks 1)) =
-        quotient_near (ratio (n - 1) 1000) (ticks a) (ticks b) l h (ticks 1) p under (down_cross a b (n - 1) (less_one a b n u.under))
-            (le_trans_f above (le_add_f l (ticks 1))) near (one_two h one) in
+    quotient_near (ratio (n - 1) 1000) (ticks a) (ticks b) l h (ticks 1) p under (down_cross a b (n - 1) (less_one a b n u.under))
+    (le_trans_f above (le_add_f l (ticks 1))) near (one_two h one) in
     let kept : ratio (n - 1) 1000 ≤ᶠ (lesser (whole 1) (l /ᶠ h) +ᶠ (whole 4 *ᶠ ticks 1)) = lesser_near (ratio (n - 1) 1000) (l /ᶠ h) (whole 4 *ᶠ ticks 1) under steady in
     le_trans_f (back_one n) (le_trans_f (add_le_f kept (le_refl_f (ratio 1 1000)))
-        (le_trans_f (add_swap_f (lesser (whole 1) (l /ᶠ h)) (whole 4 *ᶠ ticks 1) (ratio 1 1000))
-            (le_trans_f (add_right_f (lesser (whole 1) (l /ᶠ h)) (ratio 1 1000) (whole 4 *ᶠ ticks 1)) (add_le_f (le_refl_f (lesser (whole 1) (l /ᶠ h))) four_ticks))))
+    (le_trans_f (add_swap_f (lesser (whole 1) (l /ᶠ h)) (whole 4 *ᶠ ticks 1) (ratio 1 1000))
+    (le_trans_f (add_right_f (lesser (whole 1) (l /ᶠ h)) (ratio 1 1000) (whole 4 *ᶠ ticks 1)) (add_le_f (le_refl_f (lesser (whole 1) (l /ᶠ h))) four_ticks))))
 
 -- ---- against printed hundredths
 

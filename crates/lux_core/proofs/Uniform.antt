@@ -54,9 +54,9 @@ counted covered n false e h = let k = count_open covered n e in omega arith
 
 not_last : (covered : ℕ → Bool) (n g : ℕ) → g < suc n → covered g ≡ false → covered n ≡ true → g < n
 not_last covered n g l o e = elim (cases_lt g n) [
-    inl h ↦ h
+  | inl h ↦ h
   | inr q ↦ absurd (let f : g ≡ n = omega arith in let P : ℕ → Type 0 = λ m. covered m ≡ false in let k : covered n ≡ false = subst P f o in cc)
-  ]
+]
 
 some_count : (covered : ℕ → Bool) (n g : ℕ) → g < n → covered g ≡ false → 0 < open_count covered n
 some_count covered zero g l o = absurd (omega arith)
@@ -64,9 +64,9 @@ some_count covered (suc n) g l o = counted covered n (covered n) refl (λ e. som
 
 alone : (covered : ℕ → Bool) (v : ℕ → Fraction) (n g : ℕ) → g < suc n → covered g ≡ false → (open_count covered n == 0) ≡ true → v n ≤ᶠ v g
 alone covered v n g l o t = elim (cases_lt g n) [
-    inl h ↦ absurd (let p = some_count covered n g h o in grind (arith, nat_tests))
+  | inl h ↦ absurd (let p = some_count covered n g h o in grind (arith, nat_tests))
   | inr q ↦ let f : n ≡ g = omega arith in let P : ℕ → Type 0 = λ m. v n ≤ᶠ v m in subst P f (le_refl_f (v n))
-  ]
+]
 
 -- and the least of them is at most each
 pub least_below : (covered : ℕ → Bool) (v : ℕ → Fraction) (n g : ℕ) → g < n → covered g ≡ false → least covered v n ≤ᶠ v g
@@ -76,9 +76,9 @@ least_below covered v (suc n) g l o = chosen_below (covered n) (open_count cover
     (λ b. least_below covered v n g (not_last covered n g l o b) o)
     (λ b t. alone covered v n g l o t)
     (λ b t. elim (cases_lt g n) [
-        inl h ↦ le_trans_f (lesser_left (least covered v n) (v n)) (least_below covered v n g h o)
+      | inl h ↦ le_trans_f (lesser_left (least covered v n) (v n)) (least_below covered v n g h o)
       | inr q ↦ let f : n ≡ g = omega arith in let P : ℕ → Type 0 = λ m. lesser (least covered v n) (v n) ≤ᶠ v m in subst P f (lesser_right (least covered v n) (v n))
-      ])
+    ])
 
 -- ---- the least is at most the mean
 
@@ -88,7 +88,7 @@ unfolding open_sum sum_to
 sum_step covered w a k true e r h = rw (count_covered covered k e, e) (le_trans_f r (le_add_f (open_sum covered w k) (whole 0)))
 sum_step covered w a k false e r h = rw (count_open covered k e, e)
     (le_trans_f (mul_le_f (le_refl_f a) (whole_split (open_count covered k) 1))
-        (le_trans_f (mul_add_f a (whole (open_count covered k)) (whole 1)) (add_le_f r (le_trans_f (mul_one_f a) (h refl)))))
+    (le_trans_f (mul_add_f a (whole (open_count covered k)) (whole 1)) (add_le_f r (le_trans_f (mul_one_f a) (h refl)))))
 
 sum_none : (covered : ℕ → Bool) (w : ℕ → Fraction) (a : Fraction) → (a *ᶠ whole (open_count covered 0)) ≤ᶠ open_sum covered w 0
 unfolding open_count open_sum sum_to

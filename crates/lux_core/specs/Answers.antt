@@ -1,6 +1,8 @@
 -- What a run of the planner may answer: which text goes with which status, and what was the cause.
 use Rattle.std.specs.Prelude.{ℕ, ◌≡◌, ◌≢◌, ◌+◌, ◌*◌, ◌^◌, ◌<◌, ◌≤◌, ◌⊎◌, List, ◌++◌, length, sum_by, codes, Option, Some, None, IfSome, IsSomeAnd, Result, Ok, Err}
-use Rattle.lux_io.specs.Files.{bytes_of, Rose, Stood}
+use Rattle.lux_io.specs.Files.{bytes_of, Rose}
+use Rattle.lux_io.specs.declared.take.TakeFault.{TakeFault}
+use Rattle.lux_io.specs.declared.take.TakeFault.TheVariants as take
 use Rattle.room_layout.specs.FaultText.{fault_text}
 use Rattle.room_layout.specs.Layout.{built_room_of}
 use Rattle.room_layout.specs.declared.fault.RoomFault.{RoomFault}
@@ -15,11 +17,10 @@ use Rattle.lux_core.specs.Printed.{Report, line, report_text}
 use Rattle.lux_core.specs.declared.status.Status.{Status}
 use Rattle.lux_core.specs.declared.status.Status.TheVariants as status
 
--- ---- what was given, and what the shelf counted in this run
+-- ---- what the shelf held and counted in a run
 
-pub record Run : Type 0 where
-  pub words : List (List ℕ)
-  -- the files that the shelf holds, where it tells them
+pub record Shelf : Type 0 where
+  -- the files that it holds, where it tells them
   pub files : Option (List (List ℕ × List ℕ))
   pub absences_before : ℕ
   pub absences_now : ℕ
@@ -32,16 +33,10 @@ pub record Run : Type 0 where
 abbrev pub longest_file : ℕ
 longest_file = 16777216
 
--- ---- the room file
-
--- the words ask for a report of the room in this file
-abbrev pub AsksFor : Run → List ℕ → Type 0
-AsksFor run name = report_name run.words ≡ Some name
-
 -- these are all bytes of the file: those under its name, where the shelf tells its files
-pub record WereRead (run : Run) (name bytes : List ℕ) : Type 0 where
-  pub told : IfSome run.files (λ files. bytes_of name files ≡ Some bytes)
-  pub taken : run.taken ≡ length bytes
+pub record WereRead (shelf : Shelf) (name bytes : List ℕ) : Type 0 where
+  pub told : IfSome shelf.files (λ files. bytes_of name files ≡ Some bytes)
+  pub taken : shelf.taken ≡ length bytes
   pub few : length bytes ≤ longest_file
 
 -- ---- the greatest intensity of all lamps together
@@ -80,76 +75,85 @@ pub record IsRoomBright (bytes text : List ℕ) : Type 0 where
   pub bright : greatest_candela < total_candela room
   pub text_is : text ≡ line (codes "refused scene 1 TotalIntensity")
 
--- ---- the answers
-
--- a report of the room in the file
-pub record IsReport (run : Run) (text : List ℕ) : Type 0 where
-  pub name : List ℕ
-  pub command : AsksFor run name
-  pub bytes : List ℕ
-  pub read : WereRead run name bytes
-  pub given : IsRoomReport bytes text
-
--- there is no file of that name
-pub record IsAbsent (run : Run) (text : List ℕ) : Type 0 where
-  pub name : List ℕ
-  pub command : AsksFor run name
-  pub text_is : text ≡ line (codes "refused " ++ name ++ codes " Absent")
-  pub rose : Rose run.absences_before run.absences_now
-  pub told : IfSome run.files (λ files. bytes_of name files ≡ None)
-  pub taken : run.taken ≢ longest_file + 1
-
--- the file has too many bytes
-pub record IsTooLong (run : Run) (text : List ℕ) : Type 0 where
-  pub name : List ℕ
-  pub command : AsksFor run name
-  pub text_is : text ≡ line (codes "refused " ++ name ++ codes " TooLong")
-  pub taken : run.taken ≡ longest_file + 1
-  pub told : IfSome run.files (λ files. IsSomeAnd (bytes_of name files) (λ bytes. longest_file < length bytes))
-
--- the file's layout is refused
-pub record IsLayoutFault (run : Run) (text : List ℕ) : Type 0 where
-  pub name : List ℕ
-  pub command : AsksFor run name
-  pub bytes : List ℕ
-  pub read : WereRead run name bytes
-  pub given : IsRoomFault bytes text
-
--- the lamps of the file's room are too bright together
-pub record IsTooBright (run : Run) (text : List ℕ) : Type 0 where
-  pub name : List ℕ
-  pub command : AsksFor run name
-  pub bytes : List ℕ
-  pub read : WereRead run name bytes
-  pub given : IsRoomBright bytes text
-
--- the file couldn't be read
-pub record IsReadFault (run : Run) (text : List ℕ) : Type 0 where
-  pub name : List ℕ
-  pub command : AsksFor run name
-  pub text_is : text ≡ line (codes "read fault " ++ name)
-  pub rose : Rose run.faults_before run.faults_now
-  pub taken : run.taken ≢ longest_file + 1
-
--- the words are no command
-pub record IsUsage (run : Run) (text : List ℕ) : Type 0 where
-  pub command : report_name run.words ≡ None
-  pub text_is : text ≡ usage_line
-
 -- what the bytes of a room file give, by status
 abbrev pub IsRoomAnswer : List ℕ → Status → List ℕ → Type 0
 IsRoomAnswer bytes status.Done text = IsRoomReport bytes text
 IsRoomAnswer bytes status.Refused text = IsRoomFault bytes text ⊎ IsRoomBright bytes text
-IsRoomAnswer bytes _ text = ⊥
+IsRoomAnswer bytes status.Usage text = ⊥
+IsRoomAnswer bytes status.ReadFault text = ⊥
+IsRoomAnswer bytes status.WriteFault text = ⊥
+IsRoomAnswer bytes status.Memory text = ⊥
+IsRoomAnswer bytes status.Missed text = ⊥
+IsRoomAnswer bytes status.Undecided text = ⊥
+IsRoomAnswer bytes status.NotShown text = ⊥
+
+-- ---- what the name of a room file gives
+
+-- the file was read whole, and its bytes give this
+pub record IsOfBytes (shelf : Shelf) (name : List ℕ) (given_status : Status) (text : List ℕ) : Type 0 where
+  pub bytes : List ℕ
+  pub read : WereRead shelf name bytes
+  pub given : IsRoomAnswer bytes given_status text
+
+-- there is no file of that name
+pub record IsAbsent (shelf : Shelf) (name text : List ℕ) : Type 0 where
+  pub text_is : text ≡ codes "refused " ++ name ++ codes " Absent\n"
+  pub rose : Rose shelf.absences_before shelf.absences_now
+  pub told : IfSome shelf.files (λ files. bytes_of name files ≡ None)
+  pub taken : shelf.taken ≢ longest_file + 1
+
+-- the file has too many bytes
+pub record IsTooLong (shelf : Shelf) (name text : List ℕ) : Type 0 where
+  pub text_is : text ≡ codes "refused " ++ name ++ codes " TooLong\n"
+  pub taken : shelf.taken ≡ longest_file + 1
+  pub told : IfSome shelf.files (λ files. IsSomeAnd (bytes_of name files) (λ bytes. longest_file < length bytes))
+
+-- the file couldn't be read
+pub record IsReadFault (shelf : Shelf) (name text : List ℕ) : Type 0 where
+  pub text_is : text ≡ line (codes "read fault " ++ name)
+  pub rose : Rose shelf.faults_before shelf.faults_now
+  pub taken : shelf.taken ≢ longest_file + 1
+
+abbrev pub IsFileAnswer : Shelf → List ℕ → Status → List ℕ → Type 0
+IsFileAnswer shelf name status.Done text = IsOfBytes shelf name status.Done text
+IsFileAnswer shelf name status.Refused text = IsAbsent shelf name text ⊎ (IsTooLong shelf name text ⊎ IsOfBytes shelf name status.Refused text)
+IsFileAnswer shelf name status.ReadFault text = IsReadFault shelf name text
+IsFileAnswer shelf name status.Usage text = ⊥
+IsFileAnswer shelf name status.WriteFault text = ⊥
+IsFileAnswer shelf name status.Memory text = ⊥
+IsFileAnswer shelf name status.Missed text = ⊥
+IsFileAnswer shelf name status.Undecided text = ⊥
+IsFileAnswer shelf name status.NotShown text = ⊥
+
+-- ---- the answer to the words
+
+-- the words are no command
+pub record IsUsage (words : List (List ℕ)) (text : List ℕ) : Type 0 where
+  pub none : report_name words ≡ None
+  pub text_is : text ≡ usage_line
+
+-- the words ask for a report of the room in a file, and the file gives this
+pub record IsReportAnswer (words : List (List ℕ)) (shelf : Shelf) (given_status : Status) (text : List ℕ) : Type 0 where
+  pub name : List ℕ
+  pub command : report_name words ≡ Some name
+  pub answer : IsFileAnswer shelf name given_status text
 
 -- the text that goes with a status, and why
-abbrev pub IsAnswer : Run → Status → List ℕ → Type 0
-IsAnswer run status.Done text = IsReport run text
-IsAnswer run status.Refused text = IsAbsent run text ⊎ (IsTooLong run text ⊎ (IsLayoutFault run text ⊎ IsTooBright run text))
-IsAnswer run status.Usage text = IsUsage run text
-IsAnswer run status.ReadFault text = IsReadFault run text
-IsAnswer run status.WriteFault text = ⊥
-IsAnswer run status.Memory text = ⊥
-IsAnswer run status.Missed text = ⊥
-IsAnswer run status.Undecided text = ⊥
-IsAnswer run status.NotShown text = ⊥
+abbrev pub IsAnswer : List (List ℕ) → Shelf → Status → List ℕ → Type 0
+IsAnswer words shelf status.Usage text = IsUsage words text
+IsAnswer words shelf status.Done text = IsReportAnswer words shelf status.Done text
+IsAnswer words shelf status.Refused text = IsReportAnswer words shelf status.Refused text
+IsAnswer words shelf status.ReadFault text = IsReportAnswer words shelf status.ReadFault text
+IsAnswer words shelf status.WriteFault text = ⊥
+IsAnswer words shelf status.Memory text = ⊥
+IsAnswer words shelf status.Missed text = ⊥
+IsAnswer words shelf status.Undecided text = ⊥
+IsAnswer words shelf status.NotShown text = ⊥
+
+-- ---- a file that wasn't taken
+
+abbrev pub IsFaultAnswer : List ℕ → TakeFault → Status → List ℕ → Type 0
+IsFaultAnswer name take.Absent given text = (given ≡ status.Refused) × (text ≡ codes "refused " ++ name ++ codes " Absent\n")
+IsFaultAnswer name take.TooLong given text = (given ≡ status.Refused) × (text ≡ codes "refused " ++ name ++ codes " TooLong\n")
+IsFaultAnswer name take.Failed given text = (given ≡ status.ReadFault) × (text ≡ line (codes "read fault " ++ name))
+IsFaultAnswer name take.Memory given text = ⊥

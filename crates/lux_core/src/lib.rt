@@ -7,6 +7,8 @@ mod points;
 mod reply;
 mod status;
 mod text;
+mod top;
 mod words;
 
 pub use status::Status;
+pub use top::lux;

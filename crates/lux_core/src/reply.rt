@@ -2,7 +2,7 @@
 ghost use Rattle.std.specs.Prelude.{◌≡◌, ◌≢◌, ◌+◌, ◌*◌, ◌^◌, ◌<◌, ◌≤◌, All, IfOk, IfSome, OnErr, length, sum_by, string_bytes, map, Some, None};
 ghost use Rattle.lux_io.specs.Files.{bytes_of, Rose};
 ghost use Rattle.room_layout.specs.Accepted.{IsAccepted, IsPlain};
-ghost use Rattle.lux_core.specs.Answers.{candela_of, IsRoomAnswer};
+ghost use Rattle.lux_core.specs.Answers.{candela_of, IsFaultAnswer, IsFileAnswer, IsRoomAnswer};
 ghost use Rattle.lux_core.specs.Commands.{report_name};
 ghost use Rattle.lux_core.specs.Headline.{IsRight};
 ghost use Rattle.lux_core.specs.Positions.{IsDim};
@@ -76,4 +76,45 @@ fn reply_to_room(alloc: Global, bytes: &[u8]) -> Result<Reply, AllocError>
     let text = report_of(alloc, &room)?;
     let status = Status::Done;
     Ok(Reply { status, text })
+}
+
+/// The answer to a file that wasn't taken.
+fn reply_to_fault(alloc: Global, name: &str, fault: TakeFault) -> Result<Reply, AllocError>
+    ensures { IfOk result (λ r. IsFaultAnswer name.now fault r.status (string_bytes r.text)) }
+{
+    match fault {
+        TakeFault::Absent => {
+            let text = format!(in alloc; "refused {name} Absent\n")?;
+            let status = Status::Refused;
+            Ok(Reply { status, text })
+        }
+        TakeFault::TooLong => {
+            let text = format!(in alloc; "refused {name} TooLong\n")?;
+            let status = Status::Refused;
+            Ok(Reply { status, text })
+        }
+        TakeFault::Failed => {
+            let text = format!(in alloc; "read fault {name}\n")?;
+            let status = Status::ReadFault;
+            Ok(Reply { status, text })
+        }
+        TakeFault::Memory => Err(AllocError),
+    }
+}
+
+/// The answer to `report NAME`, made whole before anything is written.
+pub fn reply_to<S: Shelf>(alloc: Global, name: &str, shelf: &mut S) -> Result<Reply, AllocError>
+    ensures files { S.files shelf.new ≡ S.files shelf.old }
+    ensures answered { IfOk result (λ r. IsFileAnswer (record { files = S.files shelf.old; absences_before = S.absences shelf.old; absences_now = S.absences shelf.new; faults_before = S.faults shelf.old; faults_now = S.faults shelf.new; taken = S.taken shelf.new }) name.now r.status (string_bytes r.text)) }
+{
+    match take_file(alloc, shelf, name, LONGEST_FILE) {
+        Ok(bytes) => {
+            let reply = reply_to_room(alloc, bytes.as_slice())?;
+            Ok(reply)
+        }
+        Err(fault) => {
+            let reply = reply_to_fault(alloc, name, fault)?;
+            Ok(reply)
+        }
+    }
 }

@@ -39,3 +39,7 @@ pub fn report_of(words: &[String]) -> Option<&str>
         None
     }
 }
+
+/// The line that is written where the words are no command.
+pub const USAGE: &str =
+    "usage: lux report ROOM | grid ROOM | read FILE [SET] | sight ROOM X Y Z X Y Z | certify ROOM | check ROOM CLAIM | trial N\n";

@@ -7,6 +7,9 @@ text_of_report-requires-clause-some c = rw c.as_slice.ensures.value
     (all_open c.args.room.now c.in_ok-values.values.items c.in_ok-values.ensures (some_points c.args.room.now c.in_ok-values.values.items c.requires.accepted c.in_ok-values.ensures))
 
 pub returns : goal.returns
-returns c = let h = rw c.as_slice.ensures.value at c.in_ok-text.ensures in
-    (h.0, is_right c.args.room.now c.in_ok-values.values.items (h.0) c.in_ok-values.ensures
-        (all_open c.args.room.now c.in_ok-values.values.items c.in_ok-values.ensures (some_points c.args.room.now c.in_ok-values.values.items c.requires.accepted c.in_ok-values.ensures)) (h.1), h.2)
+returns c = let h = rw c.as_slice.ensures.value at c.in_ok-text.ensures in (
+  h.0,
+  is_right c.args.room.now c.in_ok-values.values.items (h.0) c.in_ok-values.ensures
+      (all_open c.args.room.now c.in_ok-values.values.items c.in_ok-values.ensures (some_points c.args.room.now c.in_ok-values.values.items c.requires.accepted c.in_ok-values.ensures)) (h.1),
+  h.2,
+)

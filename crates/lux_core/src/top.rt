@@ -1,0 +1,55 @@
+// The top call: from the words to the text.
+ghost use Rattle.std.specs.Prelude.{◌≡◌, ◌≢◌, ℕ, ◌+◌, ◌<◌, ◌≤◌, ◌⊎◌, List, length, map, sum_by, string_bytes, None, Some, Ok, OnErr, IfOk, IfSome};
+ghost use Rattle.lux_io.specs.Files.{bytes_of, with_bytes, AddsPrefix, HasCause, Rose, Stood};
+ghost use Rattle.room_layout.specs.Layout.{built_room_of};
+ghost use Rattle.room_layout.specs.declared.room.Room.{Room};
+ghost use Rattle.lux_core.specs.Answers.{greatest_candela, longest_file, total_candela, IsAnswer, Shelf};
+ghost use Rattle.lux_core.specs.Commands.{report_name, usage_line};
+
+use crate::reply::reply_to;
+use crate::status::Status;
+use crate::words::{USAGE, report_of};
+use lux_io::{Sink, put_all};
+use std::alloc::Global;
+
+/// Writes a whole text; the status is the one given, or that the sink failed.
+fn written<O: Sink>(out: &mut O, status: Status, text: &[u8]) -> Status
+    requires { status ≢ Status.WriteFault }
+    ensures whole { result ≢ Status.WriteFault → (result ≡ status) × (O.written out.new ≡ with_bytes (O.written out.old) text.now) }
+    ensures cut_short { result ≡ Status.WriteFault → AddsPrefix (O.written out.old) (O.written out.new) text.now }
+    ensures rose { result ≡ Status.WriteFault → Rose (O.faults out.old) (O.faults out.new) }
+{
+    match put_all(out, text) {
+        Ok(()) => status,
+        Err(_) => Status::WriteFault,
+    }
+}
+
+/// Runs a command: `report ROOM` reads a room layout from the shelf and writes the illuminance at its task points, the average
+/// and the uniformity. `words` are those after the program's name.
+///
+/// The text is made whole before its first byte is written, and what it says is proved: see the definitions `IsAnswer` and
+/// `IsRight`.
+pub fn lux<S: lux_io::Shelf, O: Sink>(
+    alloc: Global,
+    words: &[String],
+    shelf: &mut S,
+    out: &mut O,
+) -> Status
+    // The text that was written is the answer of this status, with its cause.
+    ensures answered { result ≢ Status.WriteFault → result ≢ Status.Memory → (text : List ℕ) × (O.written out.new ≡ with_bytes (O.written out.old) text) × IsAnswer (map string_bytes words.now) (record { files = S.files shelf.old; absences_before = S.absences shelf.old; absences_now = S.absences shelf.new; faults_before = S.faults shelf.old; faults_now = S.faults shelf.new; taken = S.taken shelf.new }) result text }
+    // Where the sink failed, a proper prefix was written of a text that would have been the answer.
+    ensures cut_short { result ≡ Status.WriteFault → (text : List ℕ) × (status : Status) × AddsPrefix (O.written out.old) (O.written out.new) text × IsAnswer (map string_bytes words.now) (record { files = S.files shelf.old; absences_before = S.absences shelf.old; absences_now = S.absences shelf.new; faults_before = S.faults shelf.old; faults_now = S.faults shelf.new; taken = S.taken shelf.new }) status text }
+    ensures write_fault { result ≡ Status.WriteFault → Rose (O.faults out.old) (O.faults out.new) }
+    // Without memory nothing is written, and words that are no command want none.
+    ensures memory { result ≡ Status.Memory → O.written out.new ≡ O.written out.old }
+    ensures usage_needs_none { report_name (map string_bytes words.now) ≡ None → result ≢ Status.Memory }
+{
+    let Some(name) = report_of(words) else {
+        return written(out, Status::Usage, USAGE.as_bytes());
+    };
+    let Ok(reply) = reply_to(alloc, name, shelf) else {
+        return Status::Memory;
+    };
+    written(out, reply.status, reply.text.as_bytes())
+}
