@@ -7,6 +7,8 @@ pub mod laws;
 mod memory;
 mod micro;
 mod span;
+#[cfg(test)]
+mod tests;
 mod tick;
 mod weight;
 
