@@ -1,14 +1,11 @@
 -- Layouts, read.
-use Rattle.std.specs.Prelude.{ℕ, ◌≡◌, ◌++◌, ◌∷◌, [], List, refl, codes, Result, Ok, Err, Option, Some, None}
+use Rattle.std.specs.Prelude.{ℕ, ◌≡◌, ◌++◌, ◌∷◌, [], List, refl, codes, Ok, Err, None}
 use Rattle.toml.proofs.OnLiterals.{toml_on_literals}
 use Rattle.std.specs.Str.{is_utf8, chars}
-use Rattle.room_layout.specs.Checks.{spot}
-use Rattle.room_layout.specs.declared.fault.Key.TheVariants as key
-use Rattle.room_layout.specs.declared.fault.RoomFault.{RoomFault}
 use Rattle.room_layout.specs.declared.fault.RoomFault.TheVariants as fault
 use Rattle.room_layout.specs.declared.room.Room.{Room}
 use Rattle.room_layout.specs.declared.room.Shine.TheVariants.{Even}
-use Rattle.room_layout.specs.Layout.{document_of, shell_of, block_of, blocks_of, shine_of, checked_lamp, lamp_of, lamps_of, task_of, limits_in, limits_of, version_of, room_of_document, room_of, built_room_of_document, built_room_of}
+use Rattle.room_layout.specs.Layout.{document_of, shell_of, blocks_of, shine_of, checked_lamp, lamp_of, lamps_of, task_of, limits_of, version_of, room_of_document, room_of, built_room_of_document, built_room_of}
 use Rattle.room_layout.specs.Served.{is_unserved}
 
 no_version : room_of (codes "room = 1") ≡ Err fault.Version
