@@ -1,3 +1,4 @@
+pub mod Complete
 pub mod Directs
 pub mod Falls
 pub mod Grids

@@ -157,3 +157,18 @@ IsFaultAnswer name take.Absent given text = (given ≡ status.Refused) × (text 
 IsFaultAnswer name take.TooLong given text = (given ≡ status.Refused) × (text ≡ codes "refused " ++ name ++ codes " TooLong\n")
 IsFaultAnswer name take.Failed given text = (given ≡ status.ReadFault) × (text ≡ line (codes "read fault " ++ name))
 IsFaultAnswer name take.Memory given text = ⊥
+
+-- ---- where a report has to be given
+
+-- the words ask for a room whose file is on the shelf and is not too long, and whose layout and lamps are accepted
+pub record CanReport (words : List (List ℕ)) (files : Option (List (List ℕ × List ℕ))) : Type 0 where
+  pub name : List ℕ
+  pub command : report_name words ≡ Some name
+  pub told : List (List ℕ × List ℕ)
+  pub files_are : files ≡ Some told
+  pub bytes : List ℕ
+  pub found : bytes_of name told ≡ Some bytes
+  pub few : length bytes ≤ longest_file
+  pub room : Room
+  pub accepted : built_room_of bytes ≡ Ok room
+  pub dim : total_candela room ≤ greatest_candela
