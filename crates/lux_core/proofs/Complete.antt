@@ -79,3 +79,23 @@ done_where_possible words shelf status.Memory text c s a = absurd a
 done_where_possible words shelf status.Missed text c s a = absurd a
 done_where_possible words shelf status.Undecided text c s a = absurd a
 done_where_possible words shelf status.NotShown text c s a = absurd a
+
+fault_or_not : (s : Status) → (s ≡ status.WriteFault) ⊎ (s ≢ status.WriteFault)
+fault_or_not status.WriteFault = inl refl
+fault_or_not status.Done = inr (λ e. cc)
+fault_or_not status.Refused = inr (λ e. cc)
+fault_or_not status.Usage = inr (λ e. cc)
+fault_or_not status.ReadFault = inr (λ e. cc)
+fault_or_not status.Memory = inr (λ e. cc)
+fault_or_not status.Missed = inr (λ e. cc)
+fault_or_not status.Undecided = inr (λ e. cc)
+fault_or_not status.NotShown = inr (λ e. cc)
+
+pub complete_written : (words : List (List ℕ)) (shelf : Shelf) (given result : Status) (text : List ℕ) (before now : ℕ)
+    → (result ≢ status.WriteFault → result ≡ given) → (result ≡ status.WriteFault → Rose before now) → Stood before now
+    → IsAnswer words shelf given text → CanReport words shelf.files → Stood shelf.faults_before shelf.faults_now
+    → (result ≡ status.Done) ⊎ (result ≡ status.Memory)
+complete_written words shelf given result text before now same rose out answer can stood = elim (fault_or_not result) [
+  | inl f ↦ absurd (let r = rose f in omega (arith, r, out.0, out.1))
+  | inr n ↦ inl (same n ∙ done_where_possible words shelf given text can stood answer)
+]

@@ -2,6 +2,7 @@ pub mod Answers
 pub mod Codes
 pub mod Commands
 pub mod Headline
+pub mod Laws
 pub mod Light
 pub mod PointValues
 pub mod Positions

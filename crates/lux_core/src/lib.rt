@@ -2,10 +2,13 @@
 #![tactic(auto)]
 
 mod grid;
+pub mod laws;
 mod light;
 mod points;
 mod reply;
 mod status;
+#[cfg(test)]
+mod tests;
 mod text;
 mod top;
 mod words;

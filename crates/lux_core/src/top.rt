@@ -1,10 +1,8 @@
 // The top call: from the words to the text.
-ghost use Rattle.std.specs.Prelude.{◌≡◌, ◌≢◌, ℕ, ◌+◌, ◌<◌, ◌≤◌, ◌⊎◌, List, length, map, sum_by, string_bytes, None, Some, Ok, OnErr, IfOk, IfSome};
-ghost use Rattle.lux_io.specs.Files.{bytes_of, with_bytes, AddsPrefix, HasCause, Rose, Stood};
-ghost use Rattle.room_layout.specs.Layout.{built_room_of};
-ghost use Rattle.room_layout.specs.declared.room.Room.{Room};
-ghost use Rattle.lux_core.specs.Answers.{greatest_candela, longest_file, total_candela, IsAnswer, Shelf};
-ghost use Rattle.lux_core.specs.Commands.{report_name, usage_line};
+ghost use Rattle.std.specs.Prelude.{◌≡◌, ◌≢◌, ℕ, ◌⊎◌, List, map, string_bytes, None};
+ghost use Rattle.lux_io.specs.Files.{with_bytes, AddsPrefix, Rose, Stood};
+ghost use Rattle.lux_core.specs.Answers.{CanReport, IsAnswer};
+ghost use Rattle.lux_core.specs.Commands.{report_name};
 
 use crate::reply::reply_to;
 use crate::status::Status;
@@ -41,6 +39,8 @@ pub fn lux<S: lux_io::Shelf, O: Sink>(
     // Where the sink failed, a proper prefix was written of a text that would have been the answer.
     ensures cut_short { result ≡ Status.WriteFault → (text : List ℕ) × (status : Status) × AddsPrefix (O.written out.old) (O.written out.new) text × IsAnswer (map string_bytes words.now) (record { files = S.files shelf.old; absences_before = S.absences shelf.old; absences_now = S.absences shelf.new; faults_before = S.faults shelf.old; faults_now = S.faults shelf.new; taken = S.taken shelf.new }) status text }
     ensures write_fault { result ≡ Status.WriteFault → Rose (O.faults out.old) (O.faults out.new) }
+    // Where a report can be given and nothing fails, only want of memory is answered in its place.
+    ensures complete { CanReport (map string_bytes words.now) (S.files shelf.old) → Stood (S.faults shelf.old) (S.faults shelf.new) → Stood (O.faults out.old) (O.faults out.new) → (result ≡ Status.Done) ⊎ (result ≡ Status.Memory) }
     // Without memory nothing is written, and words that are no command want none.
     ensures memory { result ≡ Status.Memory → O.written out.new ≡ O.written out.old }
     ensures usage_needs_none { report_name (map string_bytes words.now) ≡ None → result ≢ Status.Memory }
