@@ -1,11 +1,11 @@
 -- Where a report can be given and nothing fails, a report is given.
-use Rattle.std.proofs.Common.{ℕ, ◌+◌, ◌<◌, ◌≤◌, ◌≡◌, ◌≢◌, ◌⊎◌, inl, inr, List, length, refl, sym, ◌∙◌, subst, arith, ap}
+use Rattle.std.proofs.Common.{ℕ, ◌<◌, ◌≤◌, ◌≡◌, ◌≢◌, ◌⊎◌, inl, inr, List, length, refl, sym, ◌∙◌, subst, arith, ap}
 use Rattle.std.specs.Prelude.{Option, Some, None, IfSome, IsSomeAnd, Result, Ok, Err}
 use Rattle.lux_io.specs.Files.{bytes_of, Rose, Stood}
 use Rattle.room_layout.specs.Layout.{built_room_of}
 use Rattle.room_layout.specs.declared.room.Room.{Room}
 use Rattle.room_layout.specs.declared.fault.RoomFault.{RoomFault}
-use Rattle.lux_core.specs.Answers.{Shelf, WereRead, IsOfBytes, IsAbsent, IsTooLong, IsReadFault, IsRoomReport, IsRoomFault, IsRoomBright, IsRoomAnswer, IsReportAnswer, IsFileAnswer, IsUsage, IsAnswer, CanReport, longest_file, total_candela, greatest_candela}
+use Rattle.lux_core.specs.Answers.{Shelf, WereRead, IsAbsent, IsTooLong, IsRoomAnswer, IsFileAnswer, IsAnswer, CanReport, longest_file, total_candela, greatest_candela}
 use Rattle.lux_core.specs.Commands.{report_name}
 use Rattle.lux_core.specs.declared.status.Status.{Status}
 use Rattle.lux_core.specs.declared.status.Status.TheVariants as status

@@ -1,9 +1,9 @@
 -- The light of several lamps, one after the other.
-use Rattle.std.proofs.Common.{ℕ, zero, suc, ◌+◌, ◌*◌, ◌^◌, ◌≤◌, ◌≡◌, ℤ, pos, ◌≤ℤ◌, List, length, refl, subst, sym, arith, ap}
+use Rattle.std.proofs.Common.{ℕ, suc, ◌+◌, ◌*◌, ◌^◌, ◌≤◌, ◌≡◌, pos, ◌≤ℤ◌, List, arith}
 use Rattle.std.proofs.lemmas.Int.{ints}
 use Rattle.std.specs.Prelude.{slice_index_or}
-use Rattle.fx_base.specs.Fraction.{Fraction, ◌≤ᶠ◌, ◌+ᶠ◌, sum_to, whole}
-use Rattle.fx_base.specs.Interval.{Interval, Meets, LiesIn}
+use Rattle.fx_base.specs.Fraction.{◌≤ᶠ◌, sum_to, whole}
+use Rattle.fx_base.specs.Interval.{Meets, LiesIn}
 use Rattle.fx_base.specs.Ends.{Ends}
 use Rattle.fx_base.specs.Units.{ticks, natural, of_span}
 use Rattle.fx_base.proofs.Order.{le_trans_f, add_le_f}

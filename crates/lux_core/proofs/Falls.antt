@@ -1,14 +1,14 @@
 -- The light of an even lamp in ticks against its exact value: at every depth the two meet, and the ticks lie in the loose form.
-use Rattle.std.proofs.Common.{ℕ, zero, suc, ◌+◌, ◌-◌, ◌*◌, ◌/◌, ◌^◌, ◌<◌, ◌≤◌, ◌≡◌, arith}
+use Rattle.std.proofs.Common.{ℕ, zero, suc, ◌+◌, ◌-◌, ◌*◌, ◌^◌, ◌<◌, ◌≤◌, arith}
 use Rattle.std.proofs.Math.Nat.{mul-le-mul_left, mul-pos, mul-sub, one-le-pow, le_of_mul-le-mul_left}
 use Rattle.fx_base.specs.Fraction.{Fraction, ◌≤ᶠ◌, ◌+ᶠ◌, ◌-ᶠ◌, ◌*ᶠ◌, ◌/ᶠ◌, ratio, whole, half_power}
-use Rattle.fx_base.specs.Interval.{Interval, Meets, LiesIn, exact, outward}
+use Rattle.fx_base.specs.Interval.{Meets, LiesIn, exact, outward}
 use Rattle.fx_base.specs.Units.{ticks}
 use Rattle.fx_base.specs.Root.{halved, root}
 use Rattle.fx_base.specs.Search.{whole_root}
 use Rattle.fx_base.proofs.SearchLaws.{whole_root_is}
 use Rattle.fx_base.proofs.Order.{le_refl_f, le_trans_f, add_le_f, le_add_f, sub_le_f, sub_le_self_f, mul_le_f, mul_one_f, le_mul_one_f}
-use Rattle.fx_base.proofs.Ratios.{over_le, over_below, le_over, positive_above, ratio_num, ratio_den, ratio_le, le_ratio}
+use Rattle.fx_base.proofs.Ratios.{over_le, over_below, le_over, positive_above, ratio_num, ratio_den}
 use Rattle.fx_base.proofs.RootLaws.{root_above_ticks, root_below_ticks}
 use Rattle.lux_core.specs.Light.{falloff, fallen, loosened}
 

@@ -1,5 +1,5 @@
 -- The places of a grid of task points lie within its rectangle.
-use Rattle.std.proofs.Common.{ℕ, zero, suc, ◌+◌, ◌-◌, ◌*◌, ◌/◌, ◌%◌, ◌<◌, ◌≤◌, ◌≡◌, arith, inl, inr}
+use Rattle.std.proofs.Common.{ℕ, zero, suc, ◌+◌, ◌*◌, ◌/◌, ◌%◌, ◌<◌, ◌≤◌, arith, inl, inr}
 use Rattle.std.proofs.Math.Nat.{mul-le-mul_left, div-le_of_le-mul, div-mul-le_self, le-mul_of_pos_right, mod-lt}
 use Rattle.std.proofs.lemmas.Bool.{cases_lt}
 

@@ -1,19 +1,18 @@
 -- The light of a lamp that shines evenly from one point.
-use Rattle.std.proofs.Common.{ℕ, ◌+◌, ◌-◌, ◌*◌, ◌/◌, ◌%◌, ◌<◌, ◌≤◌, ◌≡◌, refl, sym, subst, ap, ◌∙◌, arith, true, false, Bool, nat_lt, if◌then◌else◌, pos}
+use Rattle.std.proofs.Common.{ℕ, ◌+◌, ◌-◌, ◌*◌, ◌<◌, ◌≤◌, ◌≡◌, refl, sym, subst, ap, ◌∙◌, arith, true, false, nat_lt, pos}
 use Rattle.std.proofs.lemmas.Bool.Decides.{nat_tests}
-use Rattle.fx_base.specs.Fraction.{Fraction, ◌≤ᶠ◌, ◌+ᶠ◌, ◌-ᶠ◌, ◌*ᶠ◌, sum_to, whole, ratio, half_power}
-use Rattle.fx_base.specs.Interval.{Interval, Meets, LiesIn, exact, outward, sum_of}
+use Rattle.fx_base.specs.Fraction.{Fraction, ◌≤ᶠ◌, ◌+ᶠ◌, ◌*ᶠ◌, sum_to, whole, ratio, half_power}
+use Rattle.fx_base.specs.Interval.{Interval, Meets, LiesIn, exact, outward}
 use Rattle.fx_base.specs.Ends.{Ends}
 use Rattle.fx_base.specs.Units.{ticks, of_span}
-use Rattle.fx_base.proofs.Order.{le_refl_f, le_trans_f, zero_add_f, le_add_left_f, zero_le_f, sub_le_f, le_add_f}
+use Rattle.fx_base.proofs.Order.{le_trans_f, zero_add_f, le_add_left_f, zero_le_f, sub_le_f}
 use Rattle.room_layout.specs.Accepted.{IsPlainLamp}
 use Rattle.room_layout.specs.Place.{Place, in_front, squared_distance, place_of_size}
 use Rattle.room_layout.specs.declared.geometry.Size.{Size}
-use Rattle.room_layout.specs.declared.geometry.Face.{Face}
 use Rattle.room_layout.specs.declared.geometry.Face.TheVariants.{Up}
 use Rattle.room_layout.specs.declared.room.Lamp.{Lamp}
 use Rattle.room_layout.specs.declared.room.Shine.{Shine}
-use Rattle.room_layout.specs.declared.room.Shine.TheVariants.{Even, File}
+use Rattle.room_layout.specs.declared.room.Shine.TheVariants.{Even}
 use Rattle.lux_core.specs.Light.{fallen, share_of, loosened, lamp_place, lamp_light, loose_lamp_light}
 
 -- ---- an even lamp in one point

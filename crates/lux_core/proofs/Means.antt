@@ -10,7 +10,7 @@ use Rattle.fx_base.specs.Units.{ticks}
 use Rattle.fx_base.proofs.Order.{le_refl_f, le_trans_f, add_le_f, mul_le_f}
 use Rattle.fx_base.proofs.Ratios.{le_over, over_below}
 use Rattle.fx_base.proofs.Sums.{ticks_le, ticks_split, ticks_join}
-use Rattle.interval_system.specs.Values.{open_count, open_sum, mean}
+use Rattle.interval_system.specs.Values.{open_count, open_sum}
 use Rattle.lux_core.specs.Sums.{is_open}
 use Rattle.lux_core.specs.declared.points.PointValue.{PointValue}
 

@@ -1,9 +1,9 @@
 -- The enclosures of direct light aren't empty: each lower end is at most its upper end.
-use Rattle.std.proofs.Common.{ℕ, zero, suc, ◌+◌, ◌*◌, ◌<◌, ◌≤◌, ◌≡◌, Bool, true, false, ◌&&◌, nat_lt, List, length, arith, refl, ap, subst, if◌then◌else◌}
+use Rattle.std.proofs.Common.{ℕ, zero, suc, ◌*◌, ◌<◌, ◌≡◌, Bool, true, false, ◌&&◌, nat_lt, List, arith, refl, subst, if◌then◌else◌}
 use Rattle.std.specs.Prelude.{slice_index_or}
 use Rattle.std.proofs.Math.Nat.{mul-pos}
-use Rattle.fx_base.specs.Fraction.{Fraction, ◌≤ᶠ◌, ◌+ᶠ◌, ◌-ᶠ◌, ◌*ᶠ◌, ◌/ᶠ◌, ratio, whole, half_power, sum_to}
-use Rattle.fx_base.specs.Interval.{Interval, InOrder, exact, outward, sum_of}
+use Rattle.fx_base.specs.Fraction.{Fraction, ◌≤ᶠ◌, ◌*ᶠ◌, ◌/ᶠ◌, ratio, whole, half_power}
+use Rattle.fx_base.specs.Interval.{Interval, InOrder, exact, outward}
 use Rattle.fx_base.specs.Root.{root}
 use Rattle.fx_base.proofs.Order.{le_refl_f, le_trans_f, mul_le_f, le_add_f, sub_le_self_f}
 use Rattle.fx_base.proofs.Ratios.{over_le, ratio_le_ratio}

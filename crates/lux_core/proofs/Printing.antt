@@ -1,15 +1,14 @@
 -- Printed ends against the ticks that they stand for.
-use Rattle.std.proofs.Common.{ℕ, ◌+◌, ◌-◌, ◌*◌, ◌/◌, ◌<◌, ◌≤◌, arith}
-use Rattle.std.proofs.Math.Nat.{div-mul-le_self, lt-div-mul-add, mul-le-mul_left}
+use Rattle.std.proofs.Common.{ℕ, ◌*◌, ◌/◌, ◌<◌, arith}
+use Rattle.std.proofs.Math.Nat.{div-mul-le_self, lt-div-mul-add}
 use Rattle.std.proofs.lemmas.Grind.{div_ceil_times}
 use Rattle.std.specs.Int.{div_ceil}
-use Rattle.fx_base.specs.Fraction.{Fraction, ◌≤ᶠ◌, ◌<ᶠ◌, ◌+ᶠ◌, ◌-ᶠ◌, ◌*ᶠ◌, ◌/ᶠ◌, ratio, whole, half_power}
+use Rattle.fx_base.specs.Fraction.{Fraction, ◌≤ᶠ◌, ◌+ᶠ◌, ratio}
 use Rattle.fx_base.specs.Interval.{Interval, Meets, LiesIn, outward}
 use Rattle.fx_base.specs.Units.{ticks}
 use Rattle.fx_base.proofs.Order.{le_refl_f, le_trans_f, add_le_f, add_right_f, add_swap_f, sub_le_f}
-use Rattle.fx_base.proofs.Ratios.{ratio_le, le_ratio, ratio_num, ratio_den, ratio_le_ratio}
-use Rattle.fx_base.proofs.Sums.{ticks_le, ticks_split}
-use Rattle.lux_core.specs.Printed.{Printed, said}
+use Rattle.fx_base.proofs.Ratios.{ratio_le, le_ratio, ratio_num, ratio_den}
+use Rattle.lux_core.specs.Printed.{said}
 use Rattle.lux_core.specs.Reports.{in_cents}
 
 -- ---- hundredths

@@ -1,24 +1,20 @@
 -- What is printed of values meets the exact values, and is near the loose ones: the average and the uniformity.
-use Rattle.std.proofs.Common.{ℕ, zero, suc, ◌+◌, ◌-◌, ◌*◌, ◌/◌, ◌^◌, ◌<◌, ◌≤◌, ◌≡◌, Bool, true, false, min, List, length, arith, refl, sym, subst, ap, ◌∙◌, inl, inr, if◌then◌else◌, ◌==◌}
+use Rattle.std.proofs.Common.{ℕ, ◌<◌, ◌≤◌, ◌≡◌, Bool, true, false, List, length, arith, refl, ap, if◌then◌else◌, ◌==◌}
 use Rattle.std.specs.Prelude.{slice_index_or}
-use Rattle.std.specs.Int.{div_ceil}
 use Rattle.std.proofs.lemmas.Bool.Decides.{nat_tests}
 use Rattle.std.proofs.lemmas.List.{get_or_default}
-use Rattle.fx_base.specs.Fraction.{Fraction, ◌≤ᶠ◌, ◌<ᶠ◌, ◌+ᶠ◌, ◌-ᶠ◌, ◌*ᶠ◌, ◌/ᶠ◌, ratio, whole, half_power, lesser}
-use Rattle.fx_base.specs.Interval.{Interval, InOrder, Meets, LiesIn, outward}
-use Rattle.fx_base.specs.Units.{ticks, natural, of_span}
-use Rattle.fx_base.proofs.Order.{le_refl_f, le_trans_f, add_le_f, le_add_f, sub_le_f, lt_le_trans_f}
+use Rattle.fx_base.specs.Fraction.{Fraction, ◌≤ᶠ◌, ◌<ᶠ◌, ◌+ᶠ◌, ◌-ᶠ◌, ◌*ᶠ◌, ◌/ᶠ◌, ratio, whole, lesser}
+use Rattle.fx_base.specs.Interval.{InOrder, Meets, LiesIn}
+use Rattle.fx_base.specs.Units.{ticks, of_span}
+use Rattle.fx_base.proofs.Order.{le_trans_f, lt_le_trans_f}
 use Rattle.fx_base.proofs.Ratios.{positive_above}
 use Rattle.fx_base.proofs.Rounding.{natural-mono}
 use Rattle.fx_base.proofs.Sums.{ticks_back, ticks_le}
-use Rattle.interval_system.specs.Values.{Grid, open_count, mean, least, average, uniformity}
-use Rattle.lux_core.specs.Printed.{said}
-use Rattle.lux_core.specs.Reports.{in_cents}
-use Rattle.lux_core.specs.Sums.{lower_end, upper_end, open_total, average_low, average_high, IsLeast, IsUniformity, IsValue}
+use Rattle.interval_system.specs.Values.{Grid, least, average, uniformity}
+use Rattle.lux_core.specs.Sums.{lower_end, upper_end, open_total, average_low, average_high, IsLeast, IsValue}
 use Rattle.lux_core.specs.declared.points.PointValue.{PointValue}
 use Rattle.lux_core.proofs.Means.{AreCoveredBy, no_point}
-use Rattle.lux_core.proofs.Printing.{printed_meets, printed_near}
-use Rattle.lux_core.proofs.Shares.{IsDown, IsUp, is_down, is_up, down_meets, down_most, up_meets, down_near, up_near}
+use Rattle.lux_core.proofs.Shares.{IsDown, IsUp, down_meets, down_most, up_meets, down_near, up_near}
 use Rattle.lux_core.proofs.TickMeans.{count_is, mean_above, mean_below, mean_near_above, mean_near_below, least_above, least_below_ticks}
 use Rattle.lux_core.proofs.Uniform.{least_below_mean, mean_le}
 

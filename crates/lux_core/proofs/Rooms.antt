@@ -1,28 +1,27 @@
 -- The report of the values of a room's task points is right.
-use Rattle.std.proofs.Common.{ℕ, zero, suc, ◌+◌, ◌-◌, ◌*◌, ◌/◌, ◌<◌, ◌≤◌, ◌≡◌, ◌↔◌, ◌⊎◌, Bool, true, false, min, List, [], ◌∷◌, length, map, take, arith, refl, sym, subst, ap, ◌∙◌, inl, inr, pos, ◌≤ℤ◌}
-use Rattle.std.specs.Prelude.{slice_index_or, Option, Some, None, IfSome, IfNone, IsNone, MatchOption, All, count_by}
+use Rattle.std.proofs.Common.{ℕ, zero, suc, ◌*◌, ◌/◌, ◌<◌, ◌≤◌, ◌≡◌, ◌⊎◌, false, min, List, [], ◌∷◌, length, map, arith, refl, sym, subst, ap, ◌∙◌, inl, inr}
+use Rattle.std.specs.Prelude.{slice_index_or, Option, Some, None, IfSome, IfNone, MatchOption, All}
 use Rattle.std.specs.Int.{div_ceil}
 use Rattle.std.proofs.Math.Nat.{div-mul-le_self, mul-pos}
 use Rattle.std.proofs.lemmas.Bool.{cases_lt}
 use Rattle.std.proofs.lemmas.Grind.{div_ceil_times}
-use Rattle.std.proofs.lemmas.List.{get_or_default}
-use Rattle.fx_base.specs.Fraction.{Fraction, ◌≤ᶠ◌, ◌<ᶠ◌, ◌+ᶠ◌, ◌-ᶠ◌, ratio, whole, half_power}
-use Rattle.fx_base.specs.Interval.{Interval, InOrder, Meets, LiesIn, outward}
-use Rattle.fx_base.specs.Units.{ticks, natural, of_span}
-use Rattle.fx_base.proofs.Order.{le_refl_f, le_trans_f, le_lt_trans_f, add_le_f, le_add_f}
-use Rattle.interval_system.specs.Values.{Grid, open_count, average, uniformity}
+use Rattle.fx_base.specs.Fraction.{◌≤ᶠ◌, ◌<ᶠ◌, ◌+ᶠ◌, ratio, whole, half_power}
+use Rattle.fx_base.specs.Interval.{Meets, LiesIn, outward}
+use Rattle.fx_base.specs.Units.{ticks, natural}
+use Rattle.fx_base.proofs.Order.{le_trans_f, le_lt_trans_f, le_add_f}
+use Rattle.interval_system.specs.Values.{open_count, average, uniformity}
 use Rattle.room_layout.specs.declared.geometry.Face.TheVariants.{Up}
 use Rattle.room_layout.specs.Accepted.{IsAccepted}
 use Rattle.room_layout.specs.declared.room.Room.{Room}
-use Rattle.lux_core.specs.Headline.{AtEachDepth, ends_at, least_end, Fits, MeetsValues, IsNarrow, IsRight}
+use Rattle.lux_core.specs.Headline.{AtEachDepth, least_end, Fits, MeetsValues, IsNarrow, IsRight}
 use Rattle.lux_core.specs.Printed.{Printed, Report, said}
-use Rattle.lux_core.specs.PointValues.{IsPoint, ArePoints}
+use Rattle.lux_core.specs.PointValues.{ArePoints}
 use Rattle.lux_core.specs.Reports.{in_cents, printed_value, IsReportOf}
 use Rattle.lux_core.specs.Scene.{lit, loose, point_place}
-use Rattle.lux_core.specs.Sums.{is_open, lower_end, upper_end, open_total, average_low, average_high, IsLeast, IsUniformity, IsValue}
+use Rattle.lux_core.specs.Sums.{lower_end, upper_end, open_total, average_low, average_high, IsLeast, IsUniformity, IsValue}
 use Rattle.lux_core.specs.declared.points.PointValue.{PointValue}
 use Rattle.lux_core.proofs.Ordered.{direct_order, loose_direct_order}
-use Rattle.lux_core.proofs.Means.{AreCoveredBy, no_point}
+use Rattle.lux_core.proofs.Means.{no_point}
 use Rattle.lux_core.proofs.Printing.{printed_meets, printed_near}
 use Rattle.lux_core.proofs.TickMeans.{count_is}
 use Rattle.lux_core.proofs.Right.{averages_order, AreMeeting, AreNear, average_meets, average_near_low, average_near_high, least_within_average, down_uniformity, up_uniformity, positive_average, down_uniformity_near, up_uniformity_near}

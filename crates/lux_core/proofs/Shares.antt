@@ -1,14 +1,14 @@
 -- A printed uniformity against the quotients that it stands for: the least value a by the average b in ticks, in thousandths n.
-use Rattle.std.proofs.Common.{ℕ, zero, suc, ◌+◌, ◌-◌, ◌*◌, ◌/◌, ◌<◌, ◌≤◌, ◌≡◌, ◌⊎◌, Bool, true, false, min, arith, refl, sym, subst, inl, inr}
+use Rattle.std.proofs.Common.{ℕ, zero, suc, ◌+◌, ◌-◌, ◌*◌, ◌/◌, ◌<◌, ◌≤◌, ◌≡◌, ◌⊎◌, min, arith, refl, inl, inr}
 use Rattle.std.specs.Int.{div_ceil}
 use Rattle.std.proofs.Math.Nat.{div-mul-le_self, lt-div-mul-add, mul-le-mul_left, le_of_mul-le-mul_left}
 use Rattle.std.proofs.lemmas.Bool.{cases_lt}
 use Rattle.std.proofs.lemmas.Grind.{div_ceil_times}
-use Rattle.fx_base.specs.Fraction.{Fraction, ◌≤ᶠ◌, ◌<ᶠ◌, ◌+ᶠ◌, ◌-ᶠ◌, ◌*ᶠ◌, ◌/ᶠ◌, ratio, whole, half_power, lesser}
+use Rattle.fx_base.specs.Fraction.{Fraction, ◌≤ᶠ◌, ◌+ᶠ◌, ◌-ᶠ◌, ◌*ᶠ◌, ◌/ᶠ◌, ratio, whole, lesser}
 use Rattle.fx_base.specs.Units.{ticks}
 use Rattle.fx_base.proofs.Order.{le_refl_f, le_trans_f, add_le_f, add_right_f, add_swap_f, mul_le_f, le_add_f, le_one_mul_f, sub_le_f, sub_back_f}
 use Rattle.fx_base.proofs.Quotient.{quotient_near}
-use Rattle.fx_base.proofs.Ratios.{lesser_left, lesser_right, le_lesser, le_over, over_below, over_mul_le, ratio_le, le_ratio, ratio_num, ratio_den, ratio_le_ratio, positive_above}
+use Rattle.fx_base.proofs.Ratios.{le_lesser, le_over, over_below, over_mul_le, ratio_num, ratio_den, ratio_le_ratio, positive_above}
 
 -- ---- what the two thousandths are to the ticks
 

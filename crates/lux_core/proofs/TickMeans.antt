@@ -1,18 +1,16 @@
 -- The mean and the least of values in ticks against those of fractions at each point.
-use Rattle.std.proofs.Common.{ℕ, zero, suc, ◌+◌, ◌-◌, ◌*◌, ◌/◌, ◌^◌, ◌<◌, ◌≤◌, ◌≡◌, ◌↔◌, Bool, true, false, min, List, length, take, map, arith, refl, sym, subst, ap, ◌∙◌, inl, inr, if◌then◌else◌, pos, ◌≤ℤ◌}
-use Rattle.std.specs.Prelude.{slice_index_or, sum_by, count_by, Option, Some, None, IfSome, IfNone, IsNone, MatchOption}
-use Rattle.std.specs.Int.{div_ceil}
+use Rattle.std.proofs.Common.{ℕ, ◌<◌, ◌≡◌, Bool, false, List, length, arith, sym, subst, ap, ◌∙◌}
+use Rattle.std.specs.Prelude.{slice_index_or, sum_by, count_by}
 use Rattle.std.proofs.Math.Seq.{take-length}
-use Rattle.fx_base.specs.Fraction.{Fraction, ◌≤ᶠ◌, ◌<ᶠ◌, ◌+ᶠ◌, ◌*ᶠ◌, ◌/ᶠ◌, ratio, whole, half_power, lesser}
-use Rattle.fx_base.specs.Interval.{Interval, Meets, LiesIn, outward}
-use Rattle.fx_base.specs.Units.{ticks, natural, of_span}
-use Rattle.fx_base.proofs.Order.{le_refl_f, le_trans_f, add_le_f, le_add_f}
-use Rattle.fx_base.proofs.Sums.{ticks_back, ticks_le}
-use Rattle.interval_system.specs.Values.{Grid, open_count, open_sum, mean, least, average, uniformity}
-use Rattle.lux_core.specs.Sums.{is_open, lower_end, upper_end, low_of, high_of, low_total, high_total, open_total, average_low, average_high, IsLeast, IsUniformity, IsValue}
+use Rattle.fx_base.specs.Fraction.{Fraction, ◌≤ᶠ◌, ◌+ᶠ◌}
+use Rattle.fx_base.specs.Units.{ticks}
+use Rattle.fx_base.proofs.Order.{le_trans_f}
+use Rattle.fx_base.proofs.Sums.{ticks_le}
+use Rattle.interval_system.specs.Values.{open_count, open_sum, mean, least}
+use Rattle.lux_core.specs.Sums.{is_open, lower_end, upper_end, low_total, high_total, open_total, average_low, average_high, IsLeast}
 use Rattle.lux_core.specs.declared.points.PointValue.{PointValue}
 use Rattle.lux_core.proofs.Means.{AreCoveredBy, no_point, open_number, sums_above, sums_below, counts, quotient_above, quotient_below, quotient_near_above, quotient_near_below}
-use Rattle.lux_core.proofs.Uniform.{below_least, least_below, least_below_mean}
+use Rattle.lux_core.proofs.Uniform.{below_least, least_below}
 
 -- ---- the average of values, in ticks
 

@@ -1,14 +1,11 @@
 -- The least values, and the uniformity.
-use Rattle.std.proofs.Common.{ℕ, zero, suc, ◌+◌, ◌-◌, ◌*◌, ◌/◌, ◌<◌, ◌≤◌, ◌≡◌, Bool, true, false, min, arith, refl, sym, subst, inl, inr, if◌then◌else◌, ◌==◌}
-use Rattle.std.specs.Int.{div_ceil}
+use Rattle.std.proofs.Common.{ℕ, zero, suc, ◌+◌, ◌<◌, ◌≡◌, Bool, true, false, arith, refl, subst, inl, inr, if◌then◌else◌, ◌==◌}
 use Rattle.std.proofs.lemmas.Bool.{cases_lt}
 use Rattle.std.proofs.lemmas.Bool.Decides.{nat_tests}
 use Rattle.lux_core.proofs.Means.{whole_positive}
-use Rattle.fx_base.specs.Fraction.{Fraction, ◌≤ᶠ◌, ◌<ᶠ◌, ◌+ᶠ◌, ◌*ᶠ◌, ◌/ᶠ◌, ratio, whole, half_power, lesser, sum_to}
-use Rattle.fx_base.specs.Interval.{Interval, Meets, LiesIn, outward}
-use Rattle.fx_base.specs.Units.{ticks}
+use Rattle.fx_base.specs.Fraction.{Fraction, ◌≤ᶠ◌, ◌*ᶠ◌, whole, lesser, sum_to}
 use Rattle.fx_base.proofs.Order.{le_refl_f, le_trans_f, add_le_f, mul_le_f, mul_add_f, mul_one_f, mul_zero_f, le_add_f}
-use Rattle.fx_base.proofs.Ratios.{lesser_left, lesser_right, le_lesser, le_over, over_below, over_le, whole_split}
+use Rattle.fx_base.proofs.Ratios.{lesser_left, lesser_right, le_lesser, le_over, over_le, whole_split}
 use Rattle.fx_base.proofs.Sums.{sum_to_le}
 use Rattle.interval_system.specs.Values.{open_count, open_sum, mean, least}
 

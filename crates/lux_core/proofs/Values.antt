@@ -1,5 +1,5 @@
 -- The values of the first points of a room.
-use Rattle.std.proofs.Common.{ℕ, ◌<◌, ◌≤◌, ◌≡◌, List, length, slice_index_or}
+use Rattle.std.proofs.Common.{ℕ, ◌<◌, ◌≡◌, List, length, slice_index_or}
 use Rattle.room_layout.specs.declared.room.Room.{Room}
 use Rattle.lux_core.specs.PointValues.{IsPoint}
 use Rattle.lux_core.specs.declared.points.PointValue.{PointValue}

@@ -1,5 +1,5 @@
 -- What a run of the planner may answer: which text goes with which status, and what was the cause.
-use Rattle.std.specs.Prelude.{ℕ, ◌≡◌, ◌≢◌, ◌+◌, ◌*◌, ◌^◌, ◌<◌, ◌≤◌, ◌⊎◌, List, ◌++◌, length, sum_by, codes, Option, Some, None, IfSome, IsSomeAnd, Result, Ok, Err}
+use Rattle.std.specs.Prelude.{ℕ, ◌≡◌, ◌≢◌, ◌+◌, ◌<◌, ◌≤◌, ◌⊎◌, List, ◌++◌, length, sum_by, codes, Option, Some, None, IfSome, IsSomeAnd, Ok, Err}
 use Rattle.lux_io.specs.Files.{bytes_of, Rose}
 use Rattle.lux_io.specs.declared.take.TakeFault.{TakeFault}
 use Rattle.lux_io.specs.declared.take.TakeFault.TheVariants as take
@@ -8,7 +8,6 @@ use Rattle.room_layout.specs.Layout.{built_room_of}
 use Rattle.room_layout.specs.declared.fault.RoomFault.{RoomFault}
 use Rattle.room_layout.specs.declared.fault.RoomFault.TheVariants as room_fault
 use Rattle.room_layout.specs.declared.room.Lamp.{Lamp}
-use Rattle.room_layout.specs.declared.room.Shine.{Shine}
 use Rattle.room_layout.specs.declared.room.Shine.TheVariants.{Even, File}
 use Rattle.room_layout.specs.declared.room.Room.{Room}
 use Rattle.lux_core.specs.Commands.{report_name, usage_line}

@@ -1,6 +1,6 @@
 -- What a printed report promises of the room.
 use Rattle.std.specs.Prelude.{ℕ, ◌≡◌, ◌*◌, ◌≤◌, ◌<◌, ◌↔◌, true, List, [], ◌∷◌, length, min, slice_index_or, Option, Some, None, IfSome, IfNone, IsNone}
-use Rattle.fx_base.specs.Fraction.{Fraction, ◌≤ᶠ◌, ◌<ᶠ◌, ◌+ᶠ◌, ratio, whole, half_power}
+use Rattle.fx_base.specs.Fraction.{◌≤ᶠ◌, ◌<ᶠ◌, ◌+ᶠ◌, ratio, whole, half_power}
 use Rattle.fx_base.specs.Interval.{Meets, LiesIn, outward}
 use Rattle.interval_system.specs.Values.{average, uniformity}
 use Rattle.room_layout.specs.declared.room.Room.{Room}

@@ -1,5 +1,5 @@
 -- The light that the lamps of a room give at a place, where nothing stands between: what falls on a plane there, in lux.
-use Rattle.std.specs.Prelude.{ℕ, ◌+◌, ◌-◌, ◌*◌, ◌/◌, ◌%◌, ◌^◌, Bool, true, ◌&&◌, nat_lt, if◌then◌else◌, List, length, slice_index_or}
+use Rattle.std.specs.Prelude.{ℕ, ◌+◌, ◌-◌, ◌*◌, ◌/◌, ◌%◌, Bool, true, ◌&&◌, nat_lt, if◌then◌else◌, List, length, slice_index_or}
 use Rattle.fx_base.specs.Fraction.{Fraction, ◌+ᶠ◌, ◌-ᶠ◌, ◌*ᶠ◌, ◌/ᶠ◌, ratio, whole, half_power}
 use Rattle.fx_base.specs.Interval.{Interval, exact, outward, sum_of}
 use Rattle.fx_base.specs.Root.{root}
@@ -8,7 +8,6 @@ use Rattle.room_layout.specs.declared.geometry.Face.{Face}
 use Rattle.room_layout.specs.declared.room.Lamp.{Lamp}
 use Rattle.room_layout.specs.declared.room.Shine.{Shine}
 use Rattle.room_layout.specs.declared.room.Shine.TheVariants.{Even, File}
-use Rattle.room_layout.specs.declared.room.Room.{Room}
 
 -- ---- the points of a lamp: its rectangle cut into equal parts along the room's axes, a point in the middle of each
 

@@ -1,5 +1,5 @@
 -- Places of the program, in half mm, and the ranges that the arithmetic of light needs.
-use Rattle.std.specs.Prelude.{ℕ, ◌≤◌}
+use Rattle.std.specs.Prelude.{◌≤◌}
 use Rattle.room_layout.specs.Place.{Place}
 use Rattle.room_layout.specs.declared.room.Lamp.{Lamp}
 use Rattle.room_layout.specs.declared.room.Shine.{Shine}

@@ -1,5 +1,5 @@
 -- The report of some values: what is printed of each, of their average and of their uniformity.
-use Rattle.std.specs.Prelude.{ℕ, ◌≡◌, ◌*◌, ◌/◌, ◌^◌, ℤ, if◌then◌else◌, List, map, Option, Some, None, MatchOption}
+use Rattle.std.specs.Prelude.{ℕ, ◌≡◌, ◌*◌, ◌/◌, if◌then◌else◌, List, map, Option, Some, None, MatchOption}
 use Rattle.std.specs.Int.{div_ceil}
 use Rattle.fx_base.specs.Units.{natural}
 use Rattle.lux_core.specs.Printed.{Printed, Report}

@@ -1,5 +1,5 @@
 -- The values at the task points of a room in which nothing reflects and no furniture stands: the direct light of its lamps.
-use Rattle.std.specs.Prelude.{ℕ, ◌*◌, ◌/◌, ◌%◌, ◌≤◌, false}
+use Rattle.std.specs.Prelude.{ℕ, ◌*◌, ◌/◌, ◌%◌, false}
 use Rattle.interval_system.specs.Values.{Grid}
 use Rattle.room_layout.specs.Place.{Place, task_place}
 use Rattle.room_layout.specs.declared.geometry.Face.TheVariants.{Up}

@@ -1,5 +1,5 @@
 -- Sums and least ends of the values of task points, over the points that aren't covered, in ticks.
-use Rattle.std.specs.Prelude.{ℕ, ◌≡◌, ◌+◌, ◌*◌, ◌/◌, min, ◌^◌, ◌<◌, ◌≤◌, ◌≤ℤ◌, pos, Bool, false, not, if◌then◌else◌, List, length, sum_by, count_by, slice_index_or}
+use Rattle.std.specs.Prelude.{ℕ, ◌≡◌, ◌*◌, ◌/◌, min, ◌^◌, ◌<◌, ◌≤◌, ◌≤ℤ◌, pos, Bool, false, not, if◌then◌else◌, List, length, sum_by, count_by, slice_index_or}
 use Rattle.std.specs.Int.{div_ceil}
 use Rattle.fx_base.specs.Units.{natural}
 use Rattle.lux_core.specs.declared.points.PointValue.{PointValue}

@@ -1,4 +1,4 @@
-use Rattle.std.proofs.Common.{ℕ, ◌+◌, ◌≡◌, arith}
+use Rattle.std.proofs.Common.{arith}
 use Rattle.lux_core.specs.Sums.{lower_end, upper_end}
 use Rattle.lux_core.proofs.Leasts.{least_step, all_least, least_within, lower_within, upper_within}
 use Rattle.lux_core.proofs.grid.least_ends.Goals as goal

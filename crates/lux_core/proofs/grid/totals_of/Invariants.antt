@@ -1,5 +1,4 @@
-use Rattle.std.proofs.Common.{◌*◌, ◌^◌, ◌≤◌, ◌≡◌, take, ℕ}
-use Rattle.lux_core.specs.Sums.{low_total, high_total, open_total}
+use Rattle.std.proofs.Common.{take}
 use Rattle.lux_core.proofs.Totals.{AreTotals}
 use Rattle.lux_core.proofs.grid.totals_of.Given as goal
 

@@ -1,4 +1,3 @@
-use Rattle.std.proofs.Common.{◌+◌, ◌*◌, ◌≡◌}
 use Rattle.room_layout.specs.Place.{squared_distance}
 use Rattle.lux_core.proofs.light.distance_squared.Goals as goal
 

@@ -1,5 +1,3 @@
-use Rattle.std.proofs.Common.{ℕ, ◌+◌, ◌*◌, ◌/◌, ◌≡◌, ap, arith, pos}
-use Rattle.fx_base.specs.Units.{natural}
 use Rattle.lux_core.proofs.Falls.{made_meets, made_near, made_most}
 use Rattle.lux_core.proofs.Made.{light_made}
 use Rattle.lux_core.proofs.light.even_share.Goals as goal

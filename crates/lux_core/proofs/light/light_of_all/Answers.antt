@@ -1,4 +1,4 @@
-use Rattle.std.proofs.Common.{◌+◌, ◌≡◌, arith}
+use Rattle.std.proofs.Common.{◌+◌, arith}
 use Rattle.lux_core.specs.Positions.{place_at}
 use Rattle.lux_core.proofs.Directs.{no_lights, one_more_light}
 use Rattle.lux_core.proofs.light.light_of_all.Goals as goal

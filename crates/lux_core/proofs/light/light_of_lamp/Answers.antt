@@ -1,4 +1,3 @@
-use Rattle.std.proofs.Common.{◌+◌, ◌*◌, ◌≡◌}
 use Rattle.fx_base.specs.Units.{of_span}
 use Rattle.lux_core.specs.Positions.{place_at}
 use Rattle.lux_core.proofs.Lamps.{light_meets, light_near, no_light_meets, no_light_near}

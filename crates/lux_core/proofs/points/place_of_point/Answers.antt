@@ -1,4 +1,4 @@
-use Rattle.std.proofs.Common.{◌≡◌, refl}
+use Rattle.std.proofs.Common.{refl}
 use Rattle.room_layout.specs.Place.{task_place}
 use Rattle.lux_core.proofs.points.place_of_point.Goals as goal
 

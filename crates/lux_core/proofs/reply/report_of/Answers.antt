@@ -1,4 +1,3 @@
-use Rattle.std.proofs.Common.{ℕ, ◌≡◌, ◌*◌, ◌<◌, arith, string_bytes}
 use Rattle.lux_core.proofs.Rooms.{some_points, all_open, is_right}
 use Rattle.lux_core.proofs.reply.report_of.Goals as goal
 

@@ -1,4 +1,4 @@
-use Rattle.std.proofs.Common.{ℕ, ◌+◌, ◌≡◌, ◌∙◌, ◌++◌, arith, string_bytes}
+use Rattle.std.proofs.Common.{arith, string_bytes}
 use Rattle.lux_core.proofs.Lines.{one_line_more, lines_end}
 use Rattle.lux_core.proofs.text.lines_of_points.Goals as goal
 

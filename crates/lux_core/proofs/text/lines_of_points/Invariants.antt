@@ -1,6 +1,4 @@
-use Rattle.std.proofs.Common.{◌≡◌, ◌++◌, drop, map, string_bytes}
-use Rattle.lux_core.specs.Printed.{point_lines}
-use Rattle.lux_core.specs.Reports.{printed_value}
+use Rattle.std.proofs.Common.{string_bytes}
 use Rattle.lux_core.proofs.Lines.{AreLinesSoFar}
 use Rattle.lux_core.proofs.text.lines_of_points.Given as goal
 

@@ -1,4 +1,4 @@
-use Rattle.std.proofs.Common.{ℕ, ◌≡◌, ◌++◌, map, refl, string_bytes}
+use Rattle.std.proofs.Common.{map, refl}
 use Rattle.std.specs.Option.{option_map}
 use Rattle.lux_core.specs.Reports.{in_cents, printed_ends, printed_value}
 use Rattle.lux_core.specs.Sums.{average_low, average_high}

@@ -1,4 +1,4 @@
-use Rattle.std.proofs.Common.{rules, ℕ, ◌≡◌, map, refl, string_bytes}
+use Rattle.std.proofs.Common.{rules, map, string_bytes}
 use Rattle.lux_core.specs.declared.status.Status.TheVariants as status
 use Rattle.lux_core.proofs.Complete.{complete_written}
 use Rattle.lux_core.proofs.top.lux.Goals as goal
