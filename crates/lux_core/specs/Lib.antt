@@ -10,3 +10,4 @@ pub mod Printed
 pub mod Reports
 pub mod Scene
 pub mod Sums
+pub mod Tests
