@@ -42,10 +42,13 @@ room_size ns between = record { x = between.each_one 0 (lit< tt); y = between.ea
 
 room_reflects : (ns : List ℕ) → AreBetween 6 0 950 ns → AreReflects (reflects_from ns)
 room_reflects ns between = record {
-    floor = (between.each_one 0 (lit< tt)).1; ceiling = (between.each_one 1 (lit< tt)).1;
-    x0 = (between.each_one 2 (lit< tt)).1; x1 = (between.each_one 3 (lit< tt)).1;
-    y0 = (between.each_one 4 (lit< tt)).1; y1 = (between.each_one 5 (lit< tt)).1;
-  }
+  floor = (between.each_one 0 (lit< tt)).1;
+  ceiling = (between.each_one 1 (lit< tt)).1;
+  x0 = (between.each_one 2 (lit< tt)).1;
+  x1 = (between.each_one 3 (lit< tt)).1;
+  y0 = (between.each_one 4 (lit< tt)).1;
+  y1 = (between.each_one 5 (lit< tt)).1;
+}
 
 pub shell_accepted : (document : Members) (s : Shell) → shell_of document ≡ Ok s → IsShell s
 unfolding shell_of
@@ -68,7 +71,10 @@ above_inside room lo hi reflect above inside reflected =
     let (ax, ay, az) = both (nat_lt lo.x hi.x) (nat_lt lo.y hi.y) (nat_lt lo.z hi.z) above in
     let (ix, iy, iz) = both (nat_le hi.x room.x) (nat_le hi.y room.y) (nat_le hi.z room.z) inside in
     record {
-      x = (lt_from _ _ ax, le_from _ _ ix); y = (lt_from _ _ ay, le_from _ _ iy); z = (lt_from _ _ az, le_from _ _ iz); reflect = reflected;
+      x = (lt_from _ _ ax, le_from _ _ ix);
+      y = (lt_from _ _ ay, le_from _ _ iy);
+      z = (lt_from _ _ az, le_from _ _ iz);
+      reflect = reflected;
     }
 
 pub block_accepted : (room : Size) (i : ℕ) (d : Data) (b : Block) → block_of room i d ≡ Ok b → IsBlockIn room b
@@ -92,8 +98,12 @@ grid_inside room t above inside few nx ny =
     let (ax, ay) = and_parts (nat_lt t.from_x t.to_x) (nat_lt t.from_y t.to_y) above in
     let (ix, iy, iz) = both (nat_le t.to_x room.x) (nat_le t.to_y room.y) (nat_le t.height room.z) inside in
     record {
-      x = (lt_from _ _ ax, le_from _ _ ix); y = (lt_from _ _ ay, le_from _ _ iy); height = le_from _ _ iz;
-      columns = nx; rows = ny; points = le_from _ _ few;
+      x = (lt_from _ _ ax, le_from _ _ ix);
+      y = (lt_from _ _ ay, le_from _ _ iy);
+      height = le_from _ _ iz;
+      columns = nx;
+      rows = ny;
+      points = le_from _ _ few;
     }
 
 pub task_accepted : (room : Size) (document : Members) (t : TaskGrid) → task_of room document ≡ Ok t → IsTaskIn room t

@@ -93,8 +93,16 @@ lamp_inside room files l inside shine turn maintenance sx sy px py =
     let (fits, mx, my) = both (fits_in l.at room) (has_margin l.at.x l.size_x room.x) (has_margin l.at.y l.size_y room.y) inside in
     let (ix, iy, iz) = both (nat_le l.at.x room.x) (nat_le l.at.y room.y) (nat_le l.at.z room.z) fits in
     record {
-      x = (le_from _ _ ix, margin_from _ _ _ mx); y = (le_from _ _ iy, margin_from _ _ _ my); z = le_from _ _ iz;
-      shine = shine; turn = turn; maintenance = maintenance; size_x = sx; size_y = sy; split_x = px; split_y = py;
+      x = (le_from _ _ ix, margin_from _ _ _ mx);
+      y = (le_from _ _ iy, margin_from _ _ _ my);
+      z = le_from _ _ iz;
+      shine = shine;
+      turn = turn;
+      maintenance = maintenance;
+      size_x = sx;
+      size_y = sy;
+      split_x = px;
+      split_y = py;
     }
 
 pub checked_accepted : (room : Size) (i : ℕ) (l : Lamp) (files : List FileUse) (r : Lamp × List FileUse) → checked_lamp room i l files ≡ Ok r → ((l, files) ≡ r) × (is_lamp_inside l room ≡ true) × (length files ≤ 16)
@@ -146,9 +154,26 @@ lamp_parts room i files d r e =
     let (split, split_is, e9) = bind_ok (optional (1 ∷ 1 ∷ []) (spot key.LampSplit i) (numbers 2 1 8) (get_member (codes "split") lamp)) _ r e8 in
     let (lit, lit_is, e10) = bind_ok (shine_of i files set candela file) _ r e9 in
     record {
-      lamp = lamp; at = at; candela = candela; file = file; set = set; turn = turn; maintenance = maintenance; size = size; split = split; lit = lit;
-      lamp_is = lamp_is; candela_is = candela_is; file_is = file_is; set_is = set_is; turn_is = turn_is; maintenance_is = maintenance_is;
-      size_is = size_is; split_is = split_is; lit_is = lit_is; end_is = e10;
+      lamp = lamp;
+      at = at;
+      candela = candela;
+      file = file;
+      set = set;
+      turn = turn;
+      maintenance = maintenance;
+      size = size;
+      split = split;
+      lit = lit;
+      lamp_is = lamp_is;
+      candela_is = candela_is;
+      file_is = file_is;
+      set_is = set_is;
+      turn_is = turn_is;
+      maintenance_is = maintenance_is;
+      size_is = size_is;
+      split_is = split_is;
+      lit_is = lit_is;
+      end_is = e10;
     }
 
 -- the lamp of those values
@@ -165,9 +190,9 @@ parts_accepted room i files d r p =
     let splits = optional_numbers_between (1 ∷ 1 ∷ []) 2 1 8 (spot key.LampSplit i) (get_member (codes "split") p.lamp) p.split no_split_between p.split_is in
     subst (IsLampWith room files) same (record {
       lamp = lamp_inside room (length p.lit.1) (lamp_of_parts p) inside shine.1
-      (optional_number_between 0 0 359 (spot key.LampTurn i) (get_member (codes "turn") p.lamp) p.turn (lit≤ tt, lit≤ tt) p.turn_is).1
-      (optional_number_between 1000 0 1000 (spot key.LampMaintenance i) (get_member (codes "maintenance") p.lamp) p.maintenance (lit≤ tt, lit≤ tt) p.maintenance_is).1
-      (sizes.each_one 0 (lit< tt)).1 (sizes.each_one 1 (lit< tt)).1 (splits.each_one 0 (lit< tt)) (splits.each_one 1 (lit< tt));
+          (optional_number_between 0 0 359 (spot key.LampTurn i) (get_member (codes "turn") p.lamp) p.turn (lit≤ tt, lit≤ tt) p.turn_is).1
+          (optional_number_between 1000 0 1000 (spot key.LampMaintenance i) (get_member (codes "maintenance") p.lamp) p.maintenance (lit≤ tt, lit≤ tt) p.maintenance_is).1
+          (sizes.each_one 0 (lit< tt)).1 (sizes.each_one 1 (lit< tt)).1 (splits.each_one 0 (lit< tt)) (splits.each_one 1 (lit< tt));
       extends = shine.0;
       few = few;
     })
@@ -183,9 +208,17 @@ more_shine n m h (File k) is = omega arith
 
 more_files : (room : Size) (n m : ℕ) → n ≤ m → (l : Lamp) → IsLampIn room n l → IsLampIn room m l
 more_files room n m h l is = record {
-    x = is.x; y = is.y; z = is.z; shine = more_shine n m h l.shine is.shine; turn = is.turn; maintenance = is.maintenance;
-    size_x = is.size_x; size_y = is.size_y; split_x = is.split_x; split_y = is.split_y;
-  }
+  x = is.x;
+  y = is.y;
+  z = is.z;
+  shine = more_shine n m h l.shine is.shine;
+  turn = is.turn;
+  maintenance = is.maintenance;
+  size_x = is.size_x;
+  size_y = is.size_y;
+  split_x = is.split_x;
+  split_y = is.split_y;
+}
 
 pub record AreLampsWith (room : Size) (files : List FileUse) (count : ℕ) (r : Lit) : Type 0 where
   pub as_many : length r.lamps ≡ count

@@ -98,8 +98,15 @@ room_parts document r e =
     let (limits, limits_are, e7) = bind_ok (limits_of document) _ r e6 in
     let same : record { size = shell.size; reflect = shell.reflect; patch = shell.patch; blocks = blocks; lamps = lit.lamps; files = lit.files; task = task; limits = limits } ≡ r = ok_same _ r e7 in
     subst (HasParts document) same (record {
-      shell = shell; shell_is = shell_is; blocks_are = blocks_are; lamps_are = lamps_are; task_is = task_is; limits_are = limits_are;
-      size_is = refl; reflect_is = refl; patch_is = refl;
+      shell = shell;
+      shell_is = shell_is;
+      blocks_are = blocks_are;
+      lamps_are = lamps_are;
+      task_is = task_is;
+      limits_are = limits_are;
+      size_is = refl;
+      reflect_is = refl;
+      patch_is = refl;
     })
 
 pub room_accepted : (document : Members) (r : Room) → room_of_document document ≡ Ok r → IsAccepted r

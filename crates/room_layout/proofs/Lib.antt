@@ -6,3 +6,4 @@ pub mod Accepts
 pub mod AcceptsLamps
 pub mod AcceptsRoom
 pub mod Plain
+pub mod Document

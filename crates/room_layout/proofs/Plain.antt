@@ -121,7 +121,13 @@ plain_from : (at : List ℕ) (shine : Shine) (turn maintenance : ℕ) (size spli
     → IsPlainLamp (lamp_from at shine turn maintenance size split)
 plain_from at shine turn maintenance size split even t m s p =
     let known_size : IsPlainLamp (lamp_from at shine turn maintenance (0 ∷ 0 ∷ []) (1 ∷ 1 ∷ [])) = record {
-      shine = even; turn = sym t; maintenance = sym m; size_x = refl; size_y = refl; split_x = refl; split_y = refl;
+      shine = even;
+      turn = sym t;
+      maintenance = sym m;
+      size_x = refl;
+      size_y = refl;
+      split_x = refl;
+      split_y = refl;
     } in
     subst (λ l. IsPlainLamp (lamp_from at shine turn maintenance size l)) p (subst (λ l. IsPlainLamp (lamp_from at shine turn maintenance l (1 ∷ 1 ∷ []))) s known_size)
 
@@ -130,12 +136,14 @@ parts_plain room i d r p lacks =
     let (same, _, _) = checked_accepted room i (lamp_of_parts p) p.lit.1 r p.end_is in
     let no_file = where_not_given (spot key.LampFile i) name_text (get_member (codes "file") p.lamp) p.file lacks.0 p.file_is in
     let shine = shine_plain i p.set p.candela p.file p.lit no_file p.lit_is in
-    subst (λ (x : Lamp × List FileUse). IsPlainLamp x.0 × (x.1 ≡ [])) same
-    (plain_from p.at p.lit.0 p.turn p.maintenance p.size p.split shine.0
-    (optional_default 0 (spot key.LampTurn i) (number 0 359) (get_member (codes "turn") p.lamp) p.turn lacks.1.1.0 p.turn_is)
-    (optional_default 1000 (spot key.LampMaintenance i) (number 0 1000) (get_member (codes "maintenance") p.lamp) p.maintenance lacks.1.1.1.0 p.maintenance_is)
-    (optional_default (0 ∷ 0 ∷ []) (spot key.LampSize i) (numbers 2 0 5000) (get_member (codes "size") p.lamp) p.size lacks.1.1.1.1.0 p.size_is)
-    (optional_default (1 ∷ 1 ∷ []) (spot key.LampSplit i) (numbers 2 1 8) (get_member (codes "split") p.lamp) p.split lacks.1.1.1.1.1.0 p.split_is), shine.1)
+    subst (λ (x : Lamp × List FileUse). IsPlainLamp x.0 × (x.1 ≡ [])) same (
+      plain_from p.at p.lit.0 p.turn p.maintenance p.size p.split shine.0
+          (optional_default 0 (spot key.LampTurn i) (number 0 359) (get_member (codes "turn") p.lamp) p.turn lacks.1.1.0 p.turn_is)
+          (optional_default 1000 (spot key.LampMaintenance i) (number 0 1000) (get_member (codes "maintenance") p.lamp) p.maintenance lacks.1.1.1.0 p.maintenance_is)
+          (optional_default (0 ∷ 0 ∷ []) (spot key.LampSize i) (numbers 2 0 5000) (get_member (codes "size") p.lamp) p.size lacks.1.1.1.1.0 p.size_is)
+          (optional_default (1 ∷ 1 ∷ []) (spot key.LampSplit i) (numbers 2 1 8) (get_member (codes "split") p.lamp) p.split lacks.1.1.1.1.1.0 p.split_is),
+      shine.1,
+    )
 
 lamp_plain : (room : Size) (i : ℕ) (d : Data) (r : Lamp × List FileUse) → lamp_of room i [] d ≡ Ok r → has_any_in unserved_of_lamp d ≡ false → IsPlainLamp r.0 × (r.1 ≡ [])
 lamp_plain room i d r e without =

@@ -109,9 +109,15 @@ is_lamp_inside l room = fits_in l.at room && has_margin l.at.x l.size_x room.x &
 
 abbrev pub lamp_from : List ℕ → Shine → ℕ → ℕ → List ℕ → List ℕ → Lamp
 lamp_from at shine turn maintenance size split = record {
-    at = size_from at; shine = shine; turn = turn; maintenance = maintenance;
-    size_x = slice_index size 0; size_y = slice_index size 1; split_x = slice_index split 0; split_y = slice_index split 1;
-  }
+  at = size_from at;
+  shine = shine;
+  turn = turn;
+  maintenance = maintenance;
+  size_x = slice_index size 0;
+  size_y = slice_index size 1;
+  split_x = slice_index split 0;
+  split_y = slice_index split 1;
+}
 
 -- lamp i, where it is within the room and brings no seventeenth file
 unfoldable pub checked_lamp : Size → ℕ → Lamp → List FileUse → Result (Lamp × List FileUse) RoomFault
@@ -153,9 +159,14 @@ task_keys = codes "from" ∷ codes "to" ∷ codes "height" ∷ codes "points" �
 
 abbrev pub task_from : List ℕ → List ℕ → ℕ → List ℕ → TaskGrid
 task_from from to height points = record {
-    from_x = slice_index from 0; from_y = slice_index from 1; to_x = slice_index to 0; to_y = slice_index to 1;
-    height = height; nx = slice_index points 0; ny = slice_index points 1;
-  }
+  from_x = slice_index from 0;
+  from_y = slice_index from 1;
+  to_x = slice_index to 0;
+  to_y = slice_index to 1;
+  height = height;
+  nx = slice_index points 0;
+  ny = slice_index points 1;
+}
 
 -- the task's far corner is above the near one on both axes
 abbrev pub is_rising : TaskGrid → Bool
@@ -220,9 +231,13 @@ room_of_document document = do
 
 -- ---- the text
 
+abbrev pub parsed : Option Members → Result Members RoomFault
+parsed None = Err fault.NotToml
+parsed (Some document) = Ok document
+
 -- the document of a text, where it is UTF-8 and TOML
 unfoldable pub document_of : List ℕ → Result Members RoomFault
-document_of bytes = elim (if is_utf8 bytes then parse_document bytes else None) [ None ↦ Err fault.NotToml | Some document ↦ Ok document ]
+document_of bytes = if is_utf8 bytes then parsed (parse_document bytes) else Err fault.NotToml
 
 -- the room of a text by the whole layout
 unfoldable pub room_of : List ℕ → Result Room RoomFault

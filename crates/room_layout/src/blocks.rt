@@ -45,7 +45,14 @@ fn read_block(value: &Value, index: u32, room: Size) -> Result<Block, RoomFault>
     let table = table_with(value, &["lo", "hi", "reflect"], Spot::at(Key::Box, index))?;
     let lo = required_numbers::<3>(table, "lo", 0, 50_000, Spot::at(Key::BoxLo, index))?;
     let hi = required_numbers::<3>(table, "hi", 0, 50_000, Spot::at(Key::BoxHi, index))?;
-    let reflect = optional_number(table, "reflect", 0, 0, 950, Spot::at(Key::BoxReflect, index))?;
+    let reflect = optional_number(
+        table,
+        "reflect",
+        0,
+        0,
+        950,
+        Spot::at(Key::BoxReflect, index),
+    )?;
     let block = Block {
         lo: size_from(lo),
         hi: size_from(hi),

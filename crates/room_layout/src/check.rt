@@ -41,7 +41,12 @@ pub fn array(value: &Value, spot: Spot) -> Result<&[Value], RoomFault>
 }
 
 /// An array of N integers, each from `least` to `most`.
-pub fn numbers<const N: usize>(value: &Value, least: u32, most: u32, spot: Spot) -> Result<[u32; N], RoomFault>
+pub fn numbers<const N: usize>(
+    value: &Value,
+    least: u32,
+    most: u32,
+    spot: Spot,
+) -> Result<[u32; N], RoomFault>
     ensures { result ≡ numbers N least most spot (view value.now) }
 {
     let items = array(value, spot)?;
@@ -49,7 +54,12 @@ pub fn numbers<const N: usize>(value: &Value, least: u32, most: u32, spot: Spot)
 }
 
 /// N integers, each from `least` to `most`. That all are integers is checked before the first range.
-fn all_numbers<const N: usize>(items: &[Value], least: u32, most: u32, spot: Spot) -> Result<[u32; N], RoomFault>
+fn all_numbers<const N: usize>(
+    items: &[Value],
+    least: u32,
+    most: u32,
+    spot: Spot,
+) -> Result<[u32; N], RoomFault>
     ensures { result ≡ all_numbers N least most spot (map view items.now) }
 {
     if items.len() != N {
@@ -62,7 +72,12 @@ fn all_numbers<const N: usize>(items: &[Value], least: u32, most: u32, spot: Spo
 }
 
 /// The numbers of N integers, or the first fault.
-fn each_number<const N: usize>(items: &[Value], least: u32, most: u32, spot: Spot) -> Result<[u32; N], RoomFault>
+fn each_number<const N: usize>(
+    items: &[Value],
+    least: u32,
+    most: u32,
+    spot: Spot,
+) -> Result<[u32; N], RoomFault>
     requires { length items.now ≡ N }
     ensures { result ≡ each (number least most spot) (map view items.now) }
 {
@@ -157,7 +172,12 @@ pub fn elements(value: &Value, most: usize, spot: Spot) -> Result<&[Value], Room
 }
 
 /// The table at a key, which has to be there.
-pub fn required_table<'a>(table: &'a Table, key: &str, known: &[&str], spot: Spot) -> Result<&'a Table, RoomFault>
+pub fn required_table<'a>(
+    table: &'a Table,
+    key: &str,
+    known: &[&str],
+    spot: Spot,
+) -> Result<&'a Table, RoomFault>
     ensures given { IfOk result (λ t. required spot (table_with (map (λ k. k.now) known.now)) (get_member key.now (table_view table.now)) ≡ Ok (table_view t.now)) }
     ensures refused { IfErr result (λ e. required spot (table_with (map (λ k. k.now) known.now)) (get_member key.now (table_view table.now)) ≡ Err e) }
 {
@@ -168,7 +188,13 @@ pub fn required_table<'a>(table: &'a Table, key: &str, known: &[&str], spot: Spo
 }
 
 /// The number at a key, which has to be there.
-pub fn required_number(table: &Table, key: &str, least: u32, most: u32, spot: Spot) -> Result<u32, RoomFault>
+pub fn required_number(
+    table: &Table,
+    key: &str,
+    least: u32,
+    most: u32,
+    spot: Spot,
+) -> Result<u32, RoomFault>
     ensures { result ≡ required spot (number least most) (get_member key.now (table_view table.now)) }
 {
     match member(table, key) {
@@ -178,7 +204,14 @@ pub fn required_number(table: &Table, key: &str, least: u32, most: u32, spot: Sp
 }
 
 /// The number at a key, or the default where the key isn't given.
-pub fn optional_number(table: &Table, key: &str, default: u32, least: u32, most: u32, spot: Spot) -> Result<u32, RoomFault>
+pub fn optional_number(
+    table: &Table,
+    key: &str,
+    default: u32,
+    least: u32,
+    most: u32,
+    spot: Spot,
+) -> Result<u32, RoomFault>
     ensures { result ≡ optional default spot (number least most) (get_member key.now (table_view table.now)) }
 {
     match member(table, key) {
@@ -188,7 +221,13 @@ pub fn optional_number(table: &Table, key: &str, default: u32, least: u32, most:
 }
 
 /// The number at a key, where the key is given.
-pub fn number_where_given(table: &Table, key: &str, least: u32, most: u32, spot: Spot) -> Result<Option<u32>, RoomFault>
+pub fn number_where_given(
+    table: &Table,
+    key: &str,
+    least: u32,
+    most: u32,
+    spot: Spot,
+) -> Result<Option<u32>, RoomFault>
     ensures { result ≡ where_given spot (number least most) (get_member key.now (table_view table.now)) }
 {
     match member(table, key) {
@@ -201,7 +240,13 @@ pub fn number_where_given(table: &Table, key: &str, least: u32, most: u32, spot:
 }
 
 /// The numbers at a key, which has to be there.
-pub fn required_numbers<const N: usize>(table: &Table, key: &str, least: u32, most: u32, spot: Spot) -> Result<[u32; N], RoomFault>
+pub fn required_numbers<const N: usize>(
+    table: &Table,
+    key: &str,
+    least: u32,
+    most: u32,
+    spot: Spot,
+) -> Result<[u32; N], RoomFault>
     ensures { result ≡ required spot (numbers N least most) (get_member key.now (table_view table.now)) }
 {
     match member(table, key) {
@@ -211,7 +256,14 @@ pub fn required_numbers<const N: usize>(table: &Table, key: &str, least: u32, mo
 }
 
 /// The numbers at a key, or the default where the key isn't given.
-pub fn optional_numbers<const N: usize>(table: &Table, key: &str, default: [u32; N], least: u32, most: u32, spot: Spot) -> Result<[u32; N], RoomFault>
+pub fn optional_numbers<const N: usize>(
+    table: &Table,
+    key: &str,
+    default: [u32; N],
+    least: u32,
+    most: u32,
+    spot: Spot,
+) -> Result<[u32; N], RoomFault>
     ensures { result ≡ optional default.entry spot (numbers N least most) (get_member key.now (table_view table.now)) }
 {
     match member(table, key) {
@@ -221,7 +273,11 @@ pub fn optional_numbers<const N: usize>(table: &Table, key: &str, default: [u32;
 }
 
 /// The text at a key that names a file, where the key is given.
-pub fn name_where_given<'a>(table: &'a Table, key: &str, spot: Spot) -> Result<Option<&'a str>, RoomFault>
+pub fn name_where_given<'a>(
+    table: &'a Table,
+    key: &str,
+    spot: Spot,
+) -> Result<Option<&'a str>, RoomFault>
     ensures given { IfOk result (λ name. where_given spot name_text (get_member key.now (table_view table.now)) ≡ Ok (option_map (λ text. text.now) name)) }
     ensures refused { IfErr result (λ e. where_given spot name_text (get_member key.now (table_view table.now)) ≡ Err e) }
 {

@@ -106,6 +106,30 @@ impl Key {
     }
 }
 
+impl Key {
+    /// Whether the key is one of a box or a lamp, of which there may be several.
+    pub fn is_indexed(&self) -> bool
+        ensures { result ≡ is_indexed self.now }
+    {
+        matches!(
+            self,
+            Key::Box
+                | Key::BoxLo
+                | Key::BoxHi
+                | Key::BoxReflect
+                | Key::Lamp
+                | Key::LampAt
+                | Key::LampCandela
+                | Key::LampFile
+                | Key::LampSet
+                | Key::LampTurn
+                | Key::LampMaintenance
+                | Key::LampSize
+                | Key::LampSplit
+        )
+    }
+}
+
 impl Spot {
     /// The spot of a key outside boxes and lamps.
     pub fn of(key: Key) -> Spot
@@ -127,6 +151,47 @@ impl fmt::Display for Key {
 
     fn fmt<W: fmt::Write>(&self, f: &mut fmt::Formatter<W>) -> fmt::Result {
         write!(f, "{}", self.text())
+    }
+}
+
+impl fmt::Display for Spot {
+    ghost output = { λ s. Some (spot_text s) };
+
+    fn fmt<W: fmt::Write>(&self, f: &mut fmt::Formatter<W>) -> fmt::Result {
+        if self.key.is_indexed() {
+            write!(f, "{} {}", self.key.text(), self.index)
+        } else {
+            write!(f, "{}", self.key.text())
+        }
+    }
+}
+
+impl fmt::Display for RoomFault {
+    ghost output = { λ e. Some (fault_text e) };
+
+    fn fmt<W: fmt::Write>(&self, f: &mut fmt::Formatter<W>) -> fmt::Result {
+        match self {
+            RoomFault::NotToml => write!(f, "1 NotToml"),
+            RoomFault::Version => write!(f, "2 Version"),
+            RoomFault::Missing(spot) => write!(f, "3 Missing {spot}"),
+            RoomFault::Unknown(spot) => write!(f, "4 Unknown {spot}"),
+            RoomFault::Kind(spot) => write!(f, "5 Kind {spot}"),
+            RoomFault::Range(spot) => write!(f, "6 Range {spot}"),
+            RoomFault::Outside(spot) => write!(f, "7 Outside {spot}"),
+            RoomFault::TooMany(spot) => write!(f, "8 TooMany {spot}"),
+            RoomFault::NotBuilt => write!(f, "9 NotBuilt"),
+            RoomFault::Memory => write!(f, "Memory"),
+        }
+    }
+}
+
+impl RoomFault {
+    /// The fault's number and name, and where it has one its spot. Want of memory is no refusal and has no number.
+    pub fn text(&self, alloc: Global) -> Result<String, AllocError>
+        ensures { IfOk result (λ s. string_bytes s ≡ fault_text self.now) }
+    {
+        let text = format!(in alloc; "{self}")?;
+        Ok(text)
     }
 }
 

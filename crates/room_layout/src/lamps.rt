@@ -3,7 +3,10 @@ ghost use Rattle.std.specs.Prelude.{◌≡◌, ◌≢◌, ◌≤◌, map, [], le
 ghost use Rattle.toml.specs.View.{view, table_view};
 ghost use Rattle.room_layout.specs.Layout.{is_same_use, has_margin, is_lamp_inside, lamp_from, shine_of, lamp_of, lamps_from, lamps_of, placed};
 
-use crate::check::{elements, member, name_where_given, number_where_given, optional_number, optional_numbers, required_numbers, table_with};
+use crate::check::{
+    elements, member, name_where_given, number_where_given, optional_number, optional_numbers,
+    required_numbers, table_with,
+};
 use crate::parts::Lit;
 use crate::sizes::{fits_in, size_from};
 use crate::{FileUse, FileUses, Key, Lamp, Lamps, Name, RoomFault, Shine, Size, Spot};
@@ -45,21 +48,67 @@ fn read_each(alloc: Global, values: &[Value], room: Size) -> Result<Lit, RoomFau
 
 /// The lamp at this index. A file that no earlier lamp uses is added to `files`.
 #[tactic(auto, unfolding(crate::specs::Layout::lamp_of, crate::specs::Layout::checked_lamp))]
-fn read_lamp(alloc: Global, files: &mut Vec<FileUse>, value: &Value, index: u32, room: Size) -> Result<Lamp, RoomFault>
+fn read_lamp(
+    alloc: Global,
+    files: &mut Vec<FileUse>,
+    value: &Value,
+    index: u32,
+    room: Size,
+) -> Result<Lamp, RoomFault>
     requires { length files.old.items ≤ 16 }
     ensures given { IfOk result (λ lamp. lamp_of room index files.old.items (view value.now) ≡ Ok (lamp, files.new.items)) }
     ensures refused { IfErr result (λ e. e ≢ RoomFault.Memory → lamp_of room index files.old.items (view value.now) ≡ Err e) }
     ensures few { OnOk result (length files.new.items ≤ 16) }
 {
-    let table = table_with(value, &["at", "candela", "file", "set", "turn", "maintenance", "size", "split"], Spot::at(Key::Lamp, index))?;
+    let table = table_with(
+        value,
+        &[
+            "at",
+            "candela",
+            "file",
+            "set",
+            "turn",
+            "maintenance",
+            "size",
+            "split",
+        ],
+        Spot::at(Key::Lamp, index),
+    )?;
     let at = required_numbers::<3>(table, "at", 0, 50_000, Spot::at(Key::LampAt, index))?;
-    let candela = number_where_given(table, "candela", 0, 10_000_000, Spot::at(Key::LampCandela, index))?;
+    let candela = number_where_given(
+        table,
+        "candela",
+        0,
+        10_000_000,
+        Spot::at(Key::LampCandela, index),
+    )?;
     let file = name_where_given(table, "file", Spot::at(Key::LampFile, index))?;
     let set = optional_number(table, "set", 1, 1, 20, Spot::at(Key::LampSet, index))?;
     let turn = optional_number(table, "turn", 0, 0, 359, Spot::at(Key::LampTurn, index))?;
-    let maintenance = optional_number(table, "maintenance", 1_000, 0, 1_000, Spot::at(Key::LampMaintenance, index))?;
-    let size = optional_numbers::<2>(table, "size", [0; 2], 0, 5_000, Spot::at(Key::LampSize, index))?;
-    let split = optional_numbers::<2>(table, "split", [1; 2], 1, 8, Spot::at(Key::LampSplit, index))?;
+    let maintenance = optional_number(
+        table,
+        "maintenance",
+        1_000,
+        0,
+        1_000,
+        Spot::at(Key::LampMaintenance, index),
+    )?;
+    let size = optional_numbers::<2>(
+        table,
+        "size",
+        [0; 2],
+        0,
+        5_000,
+        Spot::at(Key::LampSize, index),
+    )?;
+    let split = optional_numbers::<2>(
+        table,
+        "split",
+        [1; 2],
+        1,
+        8,
+        Spot::at(Key::LampSplit, index),
+    )?;
     let shine = read_shine(alloc, files, index, set, candela, file)?;
     let lamp = Lamp {
         at: size_from(at),
@@ -82,7 +131,14 @@ fn read_lamp(alloc: Global, files: &mut Vec<FileUse>, value: &Value, index: u32,
 
 /// How the lamp at this index shines: by its candela or its file, of which it has exactly one.
 #[tactic(auto, unfolding(crate::specs::Layout::shine_of))]
-fn read_shine(alloc: Global, files: &mut Vec<FileUse>, index: u32, set: u32, candela: Option<u32>, file: Option<&str>) -> Result<Shine, RoomFault>
+fn read_shine(
+    alloc: Global,
+    files: &mut Vec<FileUse>,
+    index: u32,
+    set: u32,
+    candela: Option<u32>,
+    file: Option<&str>,
+) -> Result<Shine, RoomFault>
     requires { length files.old.items ≤ 16 }
     ensures given { IfOk result (λ shine. shine_of index files.old.items set candela (option_map (λ name. name.now) file.entry) ≡ Ok (shine, files.new.items)) }
     ensures refused { IfErr result (λ e. e ≢ RoomFault.Memory → shine_of index files.old.items set candela (option_map (λ name. name.now) file.entry) ≡ Err e) }
@@ -99,7 +155,12 @@ fn read_shine(alloc: Global, files: &mut Vec<FileUse>, index: u32, set: u32, can
 }
 
 /// The index of the file and lamp set among the files, to which they are added where they aren't there.
-fn file_place(alloc: Global, files: &mut Vec<FileUse>, name: &str, set: u32) -> Result<u32, RoomFault>
+fn file_place(
+    alloc: Global,
+    files: &mut Vec<FileUse>,
+    name: &str,
+    set: u32,
+) -> Result<u32, RoomFault>
     requires { length files.old.items ≤ 16 }
     ensures given { IfOk result (λ place. placed (record { name = name.now; set = set }) files.old.items ≡ (place, files.new.items)) }
     ensures refused { IfErr result (λ e. e ≡ RoomFault.Memory) }
@@ -119,14 +180,18 @@ fn file_place(alloc: Global, files: &mut Vec<FileUse>, name: &str, set: u32) -> 
 fn use_position(files: &[FileUse], name: &str, set: u32) -> Option<usize>
     ensures { result ≡ position (is_same_use (record { name = name.now; set = set })) files.now }
 {
-    files.iter().position(|f| name == f.name.text() && set == f.set)
+    files
+        .iter()
+        .position(|f| name == f.name.text() && set == f.set)
 }
 
 /// Whether the lamp's place is within the room, and its rectangle too.
 fn is_lamp_inside(lamp: Lamp, room: Size) -> bool
     ensures { result ≡ is_lamp_inside lamp room }
 {
-    fits_in(lamp.at, room) && has_margin(lamp.at.x, lamp.size_x, room.x) && has_margin(lamp.at.y, lamp.size_y, room.y)
+    fits_in(lamp.at, room)
+        && has_margin(lamp.at.x, lamp.size_x, room.x)
+        && has_margin(lamp.at.y, lamp.size_y, room.y)
 }
 
 /// Whether half of the size on either side of the place is within the edge. Both sides are doubled, so that half of an odd size is exact.

@@ -13,6 +13,8 @@ mod read;
 mod room;
 mod served;
 mod sizes;
+#[cfg(test)]
+mod tests;
 
 pub use fault::{Key, RoomFault, Spot};
 pub use geometry::{Face, Point, Size};

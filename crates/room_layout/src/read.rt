@@ -1,35 +1,60 @@
 //! The room of a layout, table by table in the order of checking.
 ghost use Rattle.std.specs.Prelude.{◌≡◌, ◌≢◌, ◌≤◌, is_some, Result, Ok, Err, IfOk, IfErr};
 ghost use Rattle.toml.specs.View.{view, table_view};
-ghost use Rattle.room_layout.specs.Layout.{task_from, is_rising, is_task_inside, version_of, shell_of, task_of, limits_of, limits_in, room_of_document, built_room_of};
+ghost use Rattle.room_layout.specs.Layout.{task_from, is_rising, is_task_inside, version_of, shell_of, task_of, limits_of, limits_in, room_of_document, document_of, built_room_of_document, built_room_of};
 ghost use Rattle.room_layout.specs.Accepted.{IsAccepted, IsPlain};
 
 use crate::blocks::read_blocks;
-use crate::sizes::{reflects_from, size_from};
-use crate::check::{has_only, member, number_where_given, optional_number, optional_numbers, required_number, required_numbers, required_table, table_with};
+use crate::check::{
+    has_only, member, number_where_given, optional_number, optional_numbers, required_number,
+    required_numbers, required_table, table_with,
+};
 use crate::lamps::read_lamps;
 use crate::parts::Shell;
 use crate::served::is_unserved;
+use crate::sizes::{reflects_from, size_from};
 use crate::{Key, Limits, Reflects, Room, RoomFault, Size, Spot, TaskGrid};
 use std::alloc::Global;
 use toml::{Table, Value};
 
 /// Reads a room layout: the room, or the first fault in the order of checking. `NotBuilt` comes after every other fault.
+#[tactic(auto, unfolding(crate::specs::Layout::built_room_of))]
 pub fn read_room(alloc: Global, bytes: &[u8]) -> Result<Room, RoomFault>
     ensures accepted { IfOk result (λ r. built_room_of bytes.now ≡ Ok r) }
     ensures refused { IfErr result (λ e. e ≢ RoomFault.Memory → built_room_of bytes.now ≡ Err e) }
     ensures bounds { IfOk result IsAccepted }
     ensures plain { IfOk result IsPlain }
 {
-    let document = match toml::table_from_slice(alloc, bytes) {
-        Ok(document) => document,
+    let document = parse(alloc, bytes)?;
+    let room = read_built(alloc, &document)?;
+    Ok(room)
+}
+
+/// The document of a text. Bytes that aren't UTF-8 are no TOML.
+fn parse(alloc: Global, bytes: &[u8]) -> Result<Table, RoomFault>
+    ensures given { IfOk result (λ document. document_of bytes.now ≡ Ok (table_view document)) }
+    ensures refused { IfErr result (λ e. e ≢ RoomFault.Memory → document_of bytes.now ≡ Err e) }
+{
+    match toml::table_from_slice(alloc, bytes) {
+        Ok(document) => Ok(document),
         Err(e) => {
-            let fault = if e.is_memory() { RoomFault::Memory } else { RoomFault::NotToml };
-            return Err(fault);
+            if e.is_memory() {
+                Err(RoomFault::Memory)
+            } else {
+                Err(RoomFault::NotToml)
+            }
         }
-    };
-    let room = read_document(alloc, &document)?;
-    if is_unserved(&document) {
+    }
+}
+
+/// The room of a document by the part of the layout that is served.
+#[tactic(auto, unfolding(crate::specs::Layout::built_room_of_document))]
+fn read_built(alloc: Global, document: &Table) -> Result<Room, RoomFault>
+    ensures given { IfOk result (λ r. built_room_of_document (table_view document.now) ≡ Ok r) }
+    ensures refused { IfErr result (λ e. e ≢ RoomFault.Memory → built_room_of_document (table_view document.now) ≡ Err e) }
+{
+    let room = read_document(alloc, document)?;
+    if is_unserved(document) {
         return Err(RoomFault::NotBuilt);
     }
     Ok(room)
@@ -42,7 +67,10 @@ fn read_document(alloc: Global, document: &Table) -> Result<Room, RoomFault>
     ensures refused { IfErr result (λ e. e ≢ RoomFault.Memory → room_of_document (table_view document.now) ≡ Err e) }
 {
     check_version(document)?;
-    if !has_only(document, &["version", "room", "box", "lamp", "task", "limits"]) {
+    if !has_only(
+        document,
+        &["version", "room", "box", "lamp", "task", "limits"],
+    ) {
         return Err(RoomFault::Unknown(Spot::of(Key::Version)));
     }
     let shell = read_shell(document)?;
@@ -78,9 +106,21 @@ fn check_version(document: &Table) -> Result<(), RoomFault>
 fn read_shell(document: &Table) -> Result<Shell, RoomFault>
     ensures { result ≡ shell_of (table_view document.now) }
 {
-    let room = required_table(document, "room", &["size", "reflect", "patch"], Spot::of(Key::Room))?;
+    let room = required_table(
+        document,
+        "room",
+        &["size", "reflect", "patch"],
+        Spot::of(Key::Room),
+    )?;
     let size = required_numbers::<3>(room, "size", 500, 50_000, Spot::of(Key::RoomSize))?;
-    let reflect = optional_numbers::<6>(room, "reflect", [0; 6], 0, 950, Spot::of(Key::RoomReflect))?;
+    let reflect = optional_numbers::<6>(
+        room,
+        "reflect",
+        [0; 6],
+        0,
+        950,
+        Spot::of(Key::RoomReflect),
+    )?;
     let patch = optional_number(room, "patch", 600, 50, 50_000, Spot::of(Key::RoomPatch))?;
     Ok(Shell {
         size: size_from(size),
@@ -94,7 +134,12 @@ fn read_shell(document: &Table) -> Result<Shell, RoomFault>
 fn read_task(document: &Table, room: Size) -> Result<TaskGrid, RoomFault>
     ensures { result ≡ task_of room (table_view document.now) }
 {
-    let task = required_table(document, "task", &["from", "to", "height", "points"], Spot::of(Key::Task))?;
+    let task = required_table(
+        document,
+        "task",
+        &["from", "to", "height", "points"],
+        Spot::of(Key::Task),
+    )?;
     let from = required_numbers::<2>(task, "from", 0, 50_000, Spot::of(Key::TaskFrom))?;
     let to = required_numbers::<2>(task, "to", 0, 50_000, Spot::of(Key::TaskTo))?;
     let height = required_number(task, "height", 0, 50_000, Spot::of(Key::TaskHeight))?;
@@ -147,7 +192,10 @@ fn read_limits(document: &Table) -> Result<Limits, RoomFault>
 {
     match member(document, "limits") {
         Some(value) => read_limits_in(value, Spot::of(Key::Limits)),
-        None => Ok(Limits { average: None, uniformity: None }),
+        None => Ok(Limits {
+            average: None,
+            uniformity: None,
+        }),
     }
 }
 
@@ -157,7 +205,22 @@ fn read_limits_in(value: &Value, spot: Spot) -> Result<Limits, RoomFault>
     ensures { result ≡ limits_in spot (view value.now) }
 {
     let limits = table_with(value, &["average_millilux", "uniformity_permille"], spot)?;
-    let average = number_where_given(limits, "average_millilux", 0, 1_000_000_000, Spot::of(Key::LimitsAverageMillilux))?;
-    let uniformity = number_where_given(limits, "uniformity_permille", 0, 1_000, Spot::of(Key::LimitsUniformityPermille))?;
-    Ok(Limits { average: average.map(u64::from), uniformity })
+    let average = number_where_given(
+        limits,
+        "average_millilux",
+        0,
+        1_000_000_000,
+        Spot::of(Key::LimitsAverageMillilux),
+    )?;
+    let uniformity = number_where_given(
+        limits,
+        "uniformity_permille",
+        0,
+        1_000,
+        Spot::of(Key::LimitsUniformityPermille),
+    )?;
+    Ok(Limits {
+        average: average.map(u64::from),
+        uniformity,
+    })
 }

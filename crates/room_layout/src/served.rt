@@ -72,7 +72,12 @@ fn is_unserved_lamp(value: &Value) -> bool
     ensures { result ≡ has_any_in unserved_of_lamp (view value.now) }
 {
     match value.as_table() {
-        Some(lamp) => has(lamp, "file") || has(lamp, "set") || has(lamp, "turn") || has(lamp, "maintenance") || has(lamp, "size") || has(lamp, "split"),
+        Some(lamp) => has(lamp, "file")
+            || has(lamp, "set")
+            || has(lamp, "turn")
+            || has(lamp, "maintenance")
+            || has(lamp, "size")
+            || has(lamp, "split"),
         None => false,
     }
 }

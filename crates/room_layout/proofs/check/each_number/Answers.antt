@@ -24,8 +24,8 @@ loop-i-preserved g c =
       whole = length-set c.loop-i.numbers c.loop-i.i c.in_ok-numbers.field-0 ∙ c.loop-i.invariant.whole;
       same_length = c.loop-i.invariant.same_length;
       so_far = c.loop-i.invariant.so_far ∙ each_passes (λ v. number c.args.least c.args.most c.args.spot (view v)) _ c.loop-i.i _ _ _ within passes
-      ∙ ap (λ before. each (λ v. number c.args.least c.args.most c.args.spot (view v)) (drop (c.loop-i.i + 1) c.args.items.now) >>= λ more. Ok (before ++ more))
-      (sym (take_more_set c.loop-i.numbers c.loop-i.i c.in_ok-numbers.field-0 kept));
+          ∙ ap (λ before. each (λ v. number c.args.least c.args.most c.args.spot (view v)) (drop (c.loop-i.i + 1) c.args.items.now) >>= λ more. Ok (before ++ more))
+          (sym (take_more_set c.loop-i.numbers c.loop-i.i c.in_ok-numbers.field-0 kept));
     }
 
 pub returns : goal.returns

@@ -1,10 +1,9 @@
+use Rattle.room_layout.proofs.AcceptsRoom.{room_accepted, built_part}
+use Rattle.room_layout.proofs.Plain.{document_plain}
 use Rattle.room_layout.proofs.read.read_room.Goals as goal
 
-pub returns-clause-accepted : goal.returns-clause-accepted
-returns-clause-accepted c = ?
-
 pub returns-clause-bounds : goal.returns-clause-bounds
-returns-clause-bounds c = ?
+returns-clause-bounds c = room_accepted _ _ (built_part _ _ c.in_ok-room.ensures.given).0
 
 pub returns-clause-plain : goal.returns-clause-plain
-returns-clause-plain c = ?
+returns-clause-plain c = document_plain _ _ c.in_ok-room.ensures.given

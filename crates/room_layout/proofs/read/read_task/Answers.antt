@@ -9,7 +9,7 @@ returns-in_err-task c = let p = err_from_is_err_and c.from_residual.result c.fro
 pub returns-in_err-height : goal.returns-in_err-height
 unfolding task_of
 returns-in_err-height c =
-    let p = err_from_is_err_and c.from_residual-in_err-height.result c.from_residual-in_err-height.ensures.1 in 
+    let p = err_from_is_err_and c.from_residual-in_err-height.result c.from_residual-in_err-height.ensures.1 in
     let task = rw c.of.ensures at c.in_ok-task.ensures.given in
     let from = rw c.of-2.ensures at c.in_ok-from.ensures in
     let to = rw c.of-3.ensures at c.in_ok-to.ensures in
