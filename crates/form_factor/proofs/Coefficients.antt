@@ -1,11 +1,11 @@
 -- Coefficients and the weights that meet them.
-use Rattle.std.proofs.Common.{ℕ, suc, ◌+◌, ◌*◌, ◌/◌, ◌<◌, ◌≤◌, ◌≡◌, Bool, true, false, ◌&&◌, if◌then◌else◌, nat_lt, refl, ap, ◌∙◌, arith, lit≤, lit<}
-use Rattle.std.proofs.Math.Nat.{mul-le-mul, mul-le-mul_right, mul-pos, div-mul-le_self, lt-div-mul-add}
+use Rattle.std.proofs.Common.{ℕ, suc, ◌+◌, ◌*◌, ◌/◌, ◌<◌, ◌≤◌, ◌≡◌, Bool, true, false, ◌&&◌, if◌then◌else◌, nat_lt, refl, ap, ◌∙◌, arith, lit≤}
+use Rattle.std.proofs.Math.Nat.{mul-le-mul, mul-le-mul_right, div-mul-le_self, lt-div-mul-add}
 use Rattle.std.proofs.lemmas.Bool.{and_parts}
 use Rattle.std.proofs.lemmas.Bool.Decides.{nat_tests}
 use Rattle.std.specs.Int.{div_ceil}
 use Rattle.fx_base.specs.Fraction.{Fraction, ◌≤ᶠ◌, ◌+ᶠ◌, whole, ratio, half_power}
-use Rattle.fx_base.specs.Interval.{Interval, Meets, LiesIn, exact, outward}
+use Rattle.fx_base.specs.Interval.{Interval, Meets, LiesIn, exact}
 use Rattle.fx_base.specs.Nesting.{IsNested}
 use Rattle.fx_base.specs.Units.{ticks}
 use Rattle.fx_base.specs.declared.weight.Weight.{Weight}
@@ -42,16 +42,16 @@ high_weight reflect fronts r area P = div_ceil (reflect * fronts * high_share r 
 pub weight_low : (reflect fronts r area Q : ℕ) (p : Fraction) → 0 < r → 0 < area → p ≤ᶠ ticks Q → ticks (low_weight reflect fronts r area Q) ≤ᶠ kernel reflect fronts r area p
 weight_low reflect fronts r area Q p far some h =
     le_trans_f (ticks_below_kernel reflect fronts r area Q (low_weight reflect fronts r area Q) far some
-      (low_under (reflect * fronts) (1000 * r) (area * 68719476736) (Q * r + area * 68719476736) 68719476736 (low_share r area Q) (low_weight reflect fronts r area Q)
-        (div-mul-le_self (area * 68719476736 * 68719476736) (Q * r + area * 68719476736)) (div-mul-le_self (reflect * fronts * low_share r area Q) (1000 * r))))
+    (low_under (reflect * fronts) (1000 * r) (area * 68719476736) (Q * r + area * 68719476736) 68719476736 (low_share r area Q) (low_weight reflect fronts r area Q)
+    (div-mul-le_self (area * 68719476736 * 68719476736) (Q * r + area * 68719476736)) (div-mul-le_self (reflect * fronts * low_share r area Q) (1000 * r))))
     (kernel_falls reflect fronts r area p (ticks Q) some h)
 
 pub weight_high : (reflect fronts r area P : ℕ) (p : Fraction) → 0 < r → 0 < area → ticks P ≤ᶠ p → kernel reflect fronts r area p ≤ᶠ ticks (high_weight reflect fronts r area P)
 weight_high reflect fronts r area P p far some h =
     le_trans_f (kernel_falls reflect fronts r area (ticks P) p some h)
     (ticks_above_kernel reflect fronts r area P (high_weight reflect fronts r area P) far some
-      (high_over (reflect * fronts) (1000 * r) (area * 68719476736) (P * r + area * 68719476736) 68719476736 (high_share r area P) (high_weight reflect fronts r area P)
-        (ceil_above (area * 68719476736 * 68719476736) (P * r + area * 68719476736) (omega (arith, some))) (ceil_above (reflect * fronts * high_share r area P) (1000 * r) (omega (arith, far)))))
+    (high_over (reflect * fronts) (1000 * r) (area * 68719476736) (P * r + area * 68719476736) 68719476736 (high_share r area P) (high_weight reflect fronts r area P)
+    (ceil_above (area * 68719476736 * 68719476736) (P * r + area * 68719476736) (omega (arith, some))) (ceil_above (reflect * fronts * high_share r area P) (1000 * r) (omega (arith, far)))))
 
 times_most : (reflect fronts r : ℕ) → reflect ≤ 1000 → fronts ≤ r → reflect * fronts ≤ 1000 * r
 times_most reflect fronts r dull near = mul-le-mul {n₁ = reflect} {m₁ = fronts} {n₂ = 1000} {m₂ = r} dull near
@@ -61,11 +61,11 @@ pub weight_narrow : (reflect fronts r area P Q : ℕ) → reflect ≤ 1000 → f
 weight_narrow reflect fronts r area P Q dull near far some narrow three =
     weight_close (reflect * fronts) (1000 * r) (low_share r area Q) (high_share r area P) (omega (arith, far)) (times_most reflect fronts r dull near)
     (shares_close (area * 68719476736) (Q * r + area * 68719476736) (P * r + area * 68719476736) r 68719476736 (low_share r area Q) (high_share r area P)
-      (omega (arith, some)) (omega (arith, mul-le-mul_right r narrow))
-      (share_most (area * 68719476736) (Q * r + area * 68719476736) 68719476736 (omega arith))
-      (let large : 68719476736 + 1 ≤ P = omega (arith, narrow, three) in omega (arith, mul-le-mul_right r large))
-      (lt-div-mul-add {a = area * 68719476736 * 68719476736} {b = Q * r + area * 68719476736} (omega (arith, some)))
-      (ceil_below (area * 68719476736 * 68719476736) (P * r + area * 68719476736) (omega (arith, some))))
+    (omega (arith, some)) (omega (arith, mul-le-mul_right r narrow))
+    (share_most (area * 68719476736) (Q * r + area * 68719476736) 68719476736 (omega arith))
+    (let large : 68719476736 + 1 ≤ P = omega (arith, narrow, three) in omega (arith, mul-le-mul_right r large))
+    (lt-div-mul-add {a = area * 68719476736 * 68719476736} {b = Q * r + area * 68719476736} (omega (arith, some)))
+    (ceil_below (area * 68719476736 * 68719476736) (P * r + area * 68719476736) (omega (arith, some))))
 
 pub weight_order : (reflect fronts r area P Q : ℕ) → 0 < r → 0 < area → P ≤ Q → low_weight reflect fronts r area Q ≤ high_weight reflect fronts r area P
 weight_order reflect fronts r area P Q far some order =
@@ -118,7 +118,9 @@ nothing_is : (p : Place) (f : Face) (patch : Patch) (clear : Bool) → ((n : ℕ
 nothing_is p f patch clear e = record {
   low = λ n. rw (e n) (ticks_whole 0);
   high = λ n. rw (e n) (zero_le_f (ticks 0));
-  narrow = omega arith; order = omega arith; most = lit≤ tt;
+  narrow = omega arith;
+  order = omega arith;
+  most = lit≤ tt;
 }
 
 pub blocked_is : (p : Place) (f : Face) (patch : Patch) (clear : Bool) → clear ≡ false → IsCoefficient p f patch clear (record { lo = 0; hi = 0 })
@@ -136,7 +138,9 @@ seen_is p f patch clear d r w is_clear some is_d is_r low high narrow order most
     record {
       low = λ n. rw (is_clear, coefficient_seen n p f patch front, ← is_d, ← is_r) (low n);
       high = λ n. rw (is_clear, coefficient_seen n p f patch front, ← is_d, ← is_r) (high n);
-      narrow = narrow; order = order; most = most;
+      narrow = narrow;
+      order = order;
+      most = most;
     }
 
 -- what meets and is narrow lies in the loose form
@@ -186,8 +190,8 @@ narrows n p f patch clear deep some dull =
     let q = place_of patch.centre in
     narrow_by (clear && nat_lt 0 (fronts p f q patch.face)) _ (ratio 1 2400000)
     (λ e. spreads patch.reflect (fronts p f q patch.face) (squared_distance p q) (4 * patch.area) (pi n).lo (pi n).hi (ratio 1 2400000) dull
-      (fronts_near p q f patch.face) (fronts_far p q f patch.face (front_of clear (fronts p f q patch.face) e)) (omega (arith, some))
-      (le_trans_f one_three (le_trans_f (pi_above_three n) (pi_nested.order n))) (pi_narrow n deep))
+    (fronts_near p q f patch.face) (fronts_far p q f patch.face (front_of clear (fronts p f q patch.face) e)) (omega (arith, some))
+    (le_trans_f one_three (le_trans_f (pi_above_three n) (pi_nested.order n))) (pi_narrow n deep))
   where
     one_three : whole 1 ≤ᶠ whole 3
     one_three = Rattle.fx_base.proofs.Ratios.whole_le 1 3 (lit≤ tt)

@@ -1,9 +1,9 @@
 -- The kernel as one quotient, how it falls with pi, and how ticks lie to it.
-use Rattle.std.proofs.Common.{ℕ, ◌+◌, ◌*◌, ◌<◌, ◌≤◌, ◌≡◌, arith, refl, ap, lit<}
+use Rattle.std.proofs.Common.{ℕ, ◌+◌, ◌*◌, ◌<◌, ◌≤◌, ◌≡◌, arith, lit<}
 use Rattle.std.proofs.Math.Nat.{mul-pos}
-use Rattle.fx_base.specs.Fraction.{Fraction, ◌≤ᶠ◌, ratio, whole, ◌+ᶠ◌, ◌*ᶠ◌, ◌/ᶠ◌}
+use Rattle.fx_base.specs.Fraction.{Fraction, ◌≤ᶠ◌, ratio, whole, ◌+ᶠ◌, ◌*ᶠ◌}
 use Rattle.fx_base.specs.Units.{ticks}
-use Rattle.fx_base.proofs.Order.{le_refl_f, le_trans_f, add_le_f, mul_le_f}
+use Rattle.fx_base.proofs.Order.{le_refl_f, add_le_f, mul_le_f}
 use Rattle.fx_base.proofs.Ratios.{ratio_num, ratio_den, over_num, over_den, over_le}
 use Rattle.fx_base.proofs.Sums.{ticks_below, ticks_above}
 use Rattle.form_factor.specs.Coefficient.{kernel}

@@ -1,7 +1,6 @@
 -- Pi's ends in ticks.
-use Rattle.std.proofs.Common.{ℕ, ◌+◌, ◌*◌, ◌≤◌, ◌≡◌, arith, ℤ, pos, negsuc, ◌+ℤ◌, ◌≤ℤ◌}
-use Rattle.std.proofs.lemmas.Int.{ints}
-use Rattle.fx_base.specs.Fraction.{◌≤ᶠ◌, whole}
+use Rattle.std.proofs.Common.{ℕ, ◌*◌, ◌≤◌, ◌≡◌, ℤ}
+use Rattle.fx_base.specs.Fraction.{◌≤ᶠ◌}
 use Rattle.fx_base.specs.Units.{ticks, natural}
 use Rattle.fx_base.proofs.Order.{le_trans_f}
 use Rattle.fx_base.proofs.Sums.{whole_ticks, ticks_whole, ticks_back}

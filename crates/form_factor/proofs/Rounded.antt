@@ -1,6 +1,6 @@
 -- A product with a quotient, rounded down and up, over whole numbers. S is the area and U and V are what it is divided by, with
 -- pi's upper and with its lower end; one tick is 1 / T.
-use Rattle.std.proofs.Common.{ℕ, ◌+◌, ◌*◌, ◌/◌, ◌<◌, ◌≤◌, ◌≡◌, arith}
+use Rattle.std.proofs.Common.{ℕ, ◌+◌, ◌*◌, ◌/◌, ◌<◌, ◌≤◌, arith}
 use Rattle.std.proofs.Math.Nat.{mul-le-mul_left, mul-le-mul, div-mul-le_self, lt-div-mul-add, div-le_of_le-mul, le_of_mul-le-mul_left, lt_of_mul-lt-mul_left}
 use Rattle.std.proofs.lemmas.Grind.{div_ceil_times}
 use Rattle.std.specs.Int.{div_ceil}

@@ -1,5 +1,5 @@
 -- A coefficient changes no faster than pi.
-use Rattle.std.proofs.Common.{ℕ, ◌*◌, ◌<◌, ◌≤◌, arith, lit<}
+use Rattle.std.proofs.Common.{ℕ, ◌<◌, ◌≤◌, arith, lit<}
 use Rattle.fx_base.specs.Fraction.{Fraction, ◌≤ᶠ◌, ratio, whole, ◌+ᶠ◌, ◌*ᶠ◌, ◌/ᶠ◌}
 use Rattle.fx_base.proofs.Order.{le_refl_f, le_trans_f, add_le_f, mul_le_f, le_add_f, le_add_left_f, mul_add_right_f, mul_add_f, one_mul_f, mul_left_f, mul_swap_f, mul_comm_f, add_mul_right_f, add_swap_f, le_one_mul_f}
 use Rattle.fx_base.proofs.Ratios.{ratio_le, le_over_mul, over_mul_le, over_below}
@@ -23,7 +23,7 @@ share_falls : (p q w x R A : Fraction) → whole 1 ≤ᶠ q → q ≤ᶠ (p +ᶠ
 share_falls p q w x R A one h above below =
     let B = p *ᶠ R +ᶠ A in
     let moved : (x *ᶠ (w *ᶠ R)) ≤ᶠ (w *ᶠ B) =
-      le_trans_f (mul_left_f x w R) (le_trans_f (mul_swap_f x w R) (le_trans_f (mul_le_f (le_trans_f (share_small q x R A one below) (le_add_left_f (p *ᶠ R) A)) (le_refl_f w)) (mul_comm_f B w))) in
+    le_trans_f (mul_left_f x w R) (le_trans_f (mul_swap_f x w R) (le_trans_f (mul_le_f (le_trans_f (share_small q x R A one below) (le_add_left_f (p *ᶠ R) A)) (le_refl_f w)) (mul_comm_f B w))) in
     le_trans_f above (le_trans_f (mul_le_f (le_refl_f x) (under_rises p q w R A h))
     (le_trans_f (mul_add_f x B (w *ᶠ R)) (le_trans_f (add_le_f (le_refl_f (x *ᶠ B)) moved) (add_mul_right_f x w B))))
 
@@ -40,7 +40,7 @@ spreads reflect fronts r area p q w dull near apart some one h =
     let C = q *ᶠ whole r +ᶠ whole area in
     let x = whole area /ᶠ C in
     let falls : (whole area /ᶠ B) ≤ᶠ (x +ᶠ w) =
-      over_below (whole area) B (x +ᶠ w) (under_positive p r area some)
-      (share_falls p q w x (whole r) (whole area) one h (le_over_mul (whole area) C (under_positive q r area some)) (over_mul_le (whole area) C (under_positive q r area some))) in
+    over_below (whole area) B (x +ᶠ w) (under_positive p r area some)
+    (share_falls p q w x (whole r) (whole area) one h (le_over_mul (whole area) C (under_positive q r area some)) (over_mul_le (whole area) C (under_positive q r area some))) in
     le_trans_f (mul_le_f (le_refl_f part) falls)
     (le_trans_f (mul_add_f part x w) (add_le_f (le_refl_f (part *ᶠ x)) (le_trans_f (mul_le_f (part_of_one reflect fronts r dull near apart) (le_refl_f w)) (one_mul_f w))))

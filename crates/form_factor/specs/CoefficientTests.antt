@@ -1,10 +1,9 @@
 -- Coefficients, computed with 3 in place of pi.
-use Rattle.std.specs.Prelude.{ℕ, ◌≡◌, ◌*◌, refl, false}
-use Rattle.fx_base.specs.Fraction.{Fraction, ◌+ᶠ◌, ◌*ᶠ◌, ◌/ᶠ◌, ◌≈ᶠ◌, ratio, whole}
+use Rattle.std.specs.Prelude.{◌≡◌, ◌*◌, refl, false}
+use Rattle.fx_base.specs.Fraction.{◌+ᶠ◌, ◌*ᶠ◌, ◌/ᶠ◌, ◌≈ᶠ◌, ratio, whole}
 use Rattle.fx_base.specs.Interval.{exact}
-use Rattle.room_layout.specs.Place.{Place, point_of, in_front, squared_distance}
+use Rattle.room_layout.specs.Place.{Place, point_of, in_front}
 use Rattle.room_layout.specs.declared.geometry.Face.TheVariants.{Up, Down, East}
-use Rattle.patch_mesh.specs.declared.patch.Patch.{Patch}
 use Rattle.form_factor.specs.Coefficient.{kernel, fronts, coefficient}
 
 -- floor and ceiling of a cube of 2 m that reflects a half: 0.5 * (4000^2 / 4000^2) * 1 / (3 + 1)

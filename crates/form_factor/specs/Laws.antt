@@ -1,5 +1,5 @@
 -- What holds of coefficients at every depth.
-use Rattle.std.specs.Prelude.{ℕ, ◌*◌, ◌<◌, ◌≤◌, Bool}
+use Rattle.std.specs.Prelude.{ℕ, ◌<◌, ◌≤◌, Bool}
 use Rattle.fx_base.specs.Fraction.{Fraction, ◌≤ᶠ◌, ◌+ᶠ◌, whole, ratio}
 use Rattle.fx_base.specs.Nesting.{IsNested}
 use Rattle.room_layout.specs.Place.{Place, squared_distance}

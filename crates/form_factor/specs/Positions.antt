@@ -1,5 +1,5 @@
 -- The places at which the program computes.
-use Rattle.std.specs.Prelude.{ℕ, ◌≤◌}
+use Rattle.std.specs.Prelude.{◌≤◌}
 use Rattle.room_layout.specs.Place.{Place}
 use Rattle.form_factor.specs.declared.position.Position.{Position}
 

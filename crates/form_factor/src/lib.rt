@@ -2,10 +2,10 @@
 //! what the enclosures of pi give.
 #![tactic(auto)]
 
-mod reach;
 pub mod laws;
 mod pi_ends;
 mod position;
+mod reach;
 mod weigh;
 
 pub use reach::{factor, point_factor};

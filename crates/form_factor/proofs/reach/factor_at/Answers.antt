@@ -1,4 +1,4 @@
-use Rattle.std.proofs.Common.{◌<◌, ◌≡◌, arith, sym, ◌∙◌}
+use Rattle.std.proofs.Common.{sym, ◌∙◌}
 use Rattle.form_factor.proofs.Apart.{near_at, far_at, fronts_at, distance_at, some_at}
 use Rattle.form_factor.proofs.Coefficients.{blocked_is, behind_is, seen_is}
 use Rattle.form_factor.proofs.reach.factor_at.Goals as goal

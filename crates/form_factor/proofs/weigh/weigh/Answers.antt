@@ -1,5 +1,5 @@
-use Rattle.std.proofs.Common.{◌≡◌, ◌≤◌, ◌*◌, arith, ap}
-use Rattle.form_factor.proofs.Coefficients.{low_weight, high_weight, high_share, high_is, times_fit, share_limit, weight_low, weight_high, weight_narrow, weight_order, weight_limit}
+use Rattle.std.proofs.Common.{◌≤◌, arith}
+use Rattle.form_factor.proofs.Coefficients.{high_is, times_fit, share_limit, weight_low, weight_high, weight_narrow, weight_order, weight_limit}
 use Rattle.form_factor.proofs.weigh.weigh.Goals as goal
 
 pub overflow_cast-result : goal.overflow_cast-result
