@@ -1,9 +1,9 @@
 -- How parts of an edge lie.
-use Rattle.std.proofs.Common.{ℕ, zero, suc, ◌+◌, ◌-◌, ◌*◌, ◌/◌, ◌<◌, ◌≤◌, ◌≡◌, arith, inl, inr, lit<, zero-mul}
+use Rattle.std.proofs.Common.{ℕ, zero, suc, ◌+◌, ◌-◌, ◌*◌, ◌/◌, ◌<◌, ◌≤◌, ◌≡◌, arith, inl, inr, zero-mul}
 use Rattle.std.proofs.Math.Nat.{mul-le-mul_left, mul-le-mul_right, div-le_of_le-mul, div-mul-le_self, lt-div-mul-add, mul-div_cancel_left, zero-div}
 use Rattle.std.proofs.lemmas.Nat.{le-div}
 use Rattle.std.proofs.lemmas.Bool.{cases_lt}
-use Rattle.patch_mesh.specs.Cuts.{parts, cut, part_length}
+use Rattle.patch_mesh.specs.Cuts.{parts, cut}
 
 -- ---- how many parts there are
 

@@ -1,28 +1,27 @@
 -- The surfaces, patches and task points of an accepted room lie in it.
-use Rattle.std.proofs.Common.{ℕ, ◌+◌, ◌-◌, ◌*◌, ◌≤◌, ◌<◌, ◌≡◌, List, [], ◌∷◌, ◌++◌, map, length, take, refl, arith, subst, sym, ap, ◌∙◌, pos, ◌≤ℤ◌, length-append}
+use Rattle.std.proofs.Common.{ℕ, ◌+◌, ◌-◌, ◌*◌, ◌≤◌, ◌<◌, ◌≡◌, List, [], ◌∷◌, ◌++◌, map, length, take, refl, arith, subst, sym, ap, ◌∙◌, pos, length-append}
 use Rattle.std.proofs.lemmas.List.{take_all, length-map}
 use Rattle.std.specs.List.{All, flat_map}
 use Rattle.std.proofs.Math.Nat.{mul-le-mul, mul-pos}
 use Rattle.std.proofs.lemmas.Int.{ints}
 use Rattle.std.proofs.lemmas.List.Elements.{All-nil, All-cons, All-append, All-weaker}
 use Rattle.room_layout.specs.declared.geometry.Size.{Size}
-use Rattle.room_layout.specs.declared.geometry.Point.{Point}
 use Rattle.room_layout.specs.declared.geometry.Face.{Face}
 use Rattle.room_layout.specs.declared.geometry.Face.TheVariants.{Up, Down, East, West, North, South}
 use Rattle.room_layout.specs.declared.room.Block.{Block}
 use Rattle.room_layout.specs.declared.room.Room.{Room}
-use Rattle.room_layout.specs.Place.{Place, point_of, place_of_size, task_place, middle_of_part}
-use Rattle.room_layout.specs.Accepted.{IsAccepted, IsBlockIn, IsRoomSize, IsTaskIn}
+use Rattle.room_layout.specs.Place.{point_of, place_of_size, task_place, middle_of_part}
+use Rattle.room_layout.specs.Accepted.{IsAccepted, IsBlockIn, IsRoomSize}
 use Rattle.patch_mesh.specs.declared.surface.Surface.{Surface}
 use Rattle.patch_mesh.specs.declared.tiling.Tiling.{Tiling}
 use Rattle.patch_mesh.specs.declared.patch.Patch.{Patch}
 use Rattle.patch_mesh.specs.declared.patch.TaskPoint.{TaskPoint}
 use Rattle.patch_mesh.specs.Bounds.{IsAlong, IsPointIn, IsPatchIn, IsSurfaceIn, IsCutSurface, IsTaskPointIn, largest_room}
-use Rattle.patch_mesh.specs.Cuts.{parts, cut, part_length, below}
+use Rattle.patch_mesh.specs.Cuts.{cut, part_length}
 use Rattle.patch_mesh.specs.Surfaces.{at, room_surfaces, block_surfaces, surfaces, moved_along, first_axis, second_axis, first_edge, second_edge, extent}
 use Rattle.patch_mesh.specs.Patches.{tiling_of, patch_at, row_patches, whole_row, first_rows, tiling_patches, tilings, patches}
 use Rattle.patch_mesh.specs.TaskPoints as points
-use Rattle.patch_mesh.proofs.CutLaws.{parts_few, parts_some, cut_within, cut_below, cut_rises, middle_within}
+use Rattle.patch_mesh.proofs.CutLaws.{parts_few, parts_some, cut_within, cut_rises, middle_within}
 use Rattle.patch_mesh.proofs.Lists.{all_below, all_flat_below, all_map, all_flat}
 
 -- ---- surfaces

@@ -1,5 +1,5 @@
 -- Lists that are made of the numbers below n.
-use Rattle.std.proofs.Common.{ℕ, zero, suc, ◌+◌, ◌<◌, ◌≡◌, List, [], ◌∷◌, ◌++◌, map, refl, ap, ◌∙◌, sym, arith, add-zero, append_assoc, append-nil, add-one}
+use Rattle.std.proofs.Common.{ℕ, zero, suc, ◌+◌, ◌<◌, ◌≡◌, List, [], ◌∷◌, ◌++◌, map, refl, ap, ◌∙◌, arith, add-zero, append-nil}
 use Rattle.std.specs.List.{range_with_len, flat_map, All}
 use Rattle.std.proofs.lemmas.List.Elements.{All-nil, All-push, All-same, All-append, All-head, All-tail, All-cons}
 use Rattle.std.proofs.lemmas.List.Concat.{flat_map-append}

@@ -1,16 +1,14 @@
 -- The patches of a surface tile it.
-use Rattle.std.proofs.Common.{ℕ, zero, suc, ◌+◌, ◌-◌, ◌*◌, ◌<◌, ◌≤◌, ◌≡◌, ◌⊎◌, inl, inr, List, [], ◌∷◌, ◌++◌, refl, ap, ◌∙◌, sym, arith, add-one}
+use Rattle.std.proofs.Common.{ℕ, zero, suc, ◌+◌, ◌-◌, ◌*◌, ◌<◌, ◌≤◌, ◌≡◌, ◌⊎◌, inl, inr, [], ◌∷◌, ap, ◌∙◌, arith, add-one}
 use Rattle.std.specs.List.{sum_by}
 use Rattle.std.proofs.Math.Nat.{mul-sub, mul-le-mul_left}
 use Rattle.std.proofs.lemmas.Bool.{cases_lt}
 use Rattle.std.proofs.lemmas.List.Sums.{sum_by-append}
-use Rattle.patch_mesh.specs.declared.surface.Surface.{Surface}
 use Rattle.patch_mesh.specs.declared.tiling.Tiling.{Tiling}
-use Rattle.patch_mesh.specs.declared.patch.Patch.{Patch}
 use Rattle.patch_mesh.specs.Cuts.{parts, cut, part_length}
 use Rattle.patch_mesh.specs.Surfaces.{first_edge, second_edge}
 use Rattle.patch_mesh.specs.Patches.{tiling_of, patch_at, row_patches, whole_row, first_rows, tiling_patches}
-use Rattle.patch_mesh.specs.Tiling.{TileEdge, AreApart, area_of, Tiles, PatchesTile}
+use Rattle.patch_mesh.specs.Tiling.{TileEdge, AreApart, area_of, PatchesTile}
 use Rattle.patch_mesh.proofs.CutLaws.{parts_few, parts_some, parts_reach, cut_begin, cut_finish, cut_below, cut_rises, cut_short}
 use Rattle.patch_mesh.proofs.PatchLists.{row_none, row_more, rows_none, rows_more}
 

@@ -1,12 +1,11 @@
 -- The lists of patches grow by one patch, by one row and by one surface.
-use Rattle.std.proofs.Common.{ℕ, zero, suc, ◌+◌, ◌*◌, ◌<◌, ◌≤◌, ◌≡◌, take, get_or, [], ◌∷◌, ◌++◌, List, length, map, refl, ap, ◌∙◌, sym, arith, add-one, append-nil, append_assoc, length-append}
+use Rattle.std.proofs.Common.{ℕ, zero, suc, ◌+◌, ◌*◌, ◌<◌, ◌≤◌, ◌≡◌, take, get_or, [], ◌∷◌, ◌++◌, List, length, refl, ap, ◌∙◌, sym, arith, add-one, append-nil, append_assoc, length-append}
 use Rattle.std.proofs.Math.Nat.{mul-le-mul}
 use Rattle.std.proofs.lemmas.List.{take_more}
 use Rattle.std.proofs.lemmas.List.Concat.{flat_map-append}
 use Rattle.std.specs.List.{flat_map}
 use Rattle.patch_mesh.specs.declared.tiling.Tiling.{Tiling}
 use Rattle.patch_mesh.specs.declared.patch.Patch.{Patch}
-use Rattle.patch_mesh.specs.Cuts.{below}
 use Rattle.patch_mesh.specs.Patches.{patch_at, row_patches, whole_row, first_rows, tiling_patches}
 use Rattle.patch_mesh.proofs.Lists.{map-below, flat-below}
 

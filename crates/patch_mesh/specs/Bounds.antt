@@ -1,5 +1,5 @@
 -- Where patches and task points lie, and how large their numbers are.
-use Rattle.std.specs.Prelude.{ℕ, ◌*◌, ◌<◌, ◌≤◌, ℤ, pos, ◌≤ℤ◌}
+use Rattle.std.specs.Prelude.{ℕ, ◌*◌, ◌≤◌, ℤ, pos, ◌≤ℤ◌}
 use Rattle.room_layout.specs.declared.geometry.Point.{Point}
 use Rattle.room_layout.specs.declared.geometry.Size.{Size}
 use Rattle.patch_mesh.specs.declared.surface.Surface.{Surface}

@@ -1,7 +1,6 @@
 -- The parts of a surface tile it.
-use Rattle.std.specs.Prelude.{ℕ, ◌+◌, ◌*◌, ◌-◌, ◌<◌, ◌≤◌, ◌≡◌, ◌⊎◌}
+use Rattle.std.specs.Prelude.{ℕ, ◌+◌, ◌*◌, ◌<◌, ◌≤◌, ◌≡◌, ◌⊎◌}
 use Rattle.std.specs.List.{sum_by}
-use Rattle.room_layout.specs.declared.geometry.Size.{Size}
 use Rattle.patch_mesh.specs.declared.surface.Surface.{Surface}
 use Rattle.patch_mesh.specs.declared.tiling.Tiling.{Tiling}
 use Rattle.patch_mesh.specs.declared.patch.Patch.{Patch}

@@ -1,5 +1,5 @@
 //! Rooms cut into patches. What is expected is worked out by hand.
-ghost use Rattle.std.specs.Prelude.{◌≡◌, ◌<◌, ◌≤◌, ◌×◌, All, [], length};
+ghost use Rattle.std.specs.Prelude.{◌≡◌, ◌<◌, ◌≤◌, All, [], length};
 ghost use Rattle.room_layout.specs.Accepted.{IsAccepted, IsBlockIn, IsBetween, IsRoomSize, IsTaskIn};
 
 use crate::{MeshFault, Patch, TaskPoint, mesh, task_points};

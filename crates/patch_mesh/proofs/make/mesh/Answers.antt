@@ -1,6 +1,5 @@
 use Rattle.std.proofs.Common.{ap, ◌∙◌, subst, length, ◌<◌, ◌≡◌}
 use Rattle.std.specs.List.{flat_map}
-use Rattle.patch_mesh.specs.declared.patch.MeshFault.{MeshFault}
 use Rattle.patch_mesh.specs.declared.patch.MeshFault.TheVariants.{TooManyPatches}
 use Rattle.patch_mesh.specs.Patches.{patches, tilings, tiling_patches}
 use Rattle.patch_mesh.proofs.Fits.{patches_fit}

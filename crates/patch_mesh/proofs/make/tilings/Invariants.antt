@@ -1,5 +1,5 @@
-use Rattle.std.proofs.Common.{◌≡◌, ◌++◌, ◌+◌, ◌*◌, map, take, length}
-use Rattle.std.specs.List.{flat_map, All}
+use Rattle.std.proofs.Common.{◌≡◌, ◌++◌, map, take}
+use Rattle.std.specs.List.{flat_map}
 use Rattle.patch_mesh.specs.Patches.{tiling_of}
 use Rattle.patch_mesh.specs.Surfaces.{room_surfaces, block_surfaces}
 use Rattle.patch_mesh.proofs.make.tilings.Given as goal
