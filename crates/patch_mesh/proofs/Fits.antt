@@ -1,11 +1,12 @@
 -- The surfaces, patches and task points of an accepted room lie in it.
-use Rattle.std.proofs.Common.{ℕ, ◌+◌, ◌-◌, ◌*◌, ◌≤◌, ◌<◌, ◌≡◌, List, [], ◌∷◌, ◌++◌, map, length, take, refl, arith, subst, sym, ap, ◌∙◌, pos, length-append}
+use Rattle.std.proofs.Common.{ℕ, ◌+◌, ◌-◌, ◌*◌, ◌≤◌, ◌<◌, ◌≡◌, List, [], ◌∷◌, ◌++◌, map, length, take, refl, arith, subst, sym, ap, ◌∙◌, pos, length-append, ℤ, negsuc, ◌≤ℤ◌}
 use Rattle.std.proofs.lemmas.List.{take_all, length-map}
 use Rattle.std.specs.List.{All, flat_map}
 use Rattle.std.proofs.Math.Nat.{mul-le-mul, mul-pos}
 use Rattle.std.proofs.lemmas.Int.{ints}
 use Rattle.std.proofs.lemmas.List.Elements.{All-nil, All-cons, All-append, All-weaker}
 use Rattle.room_layout.specs.declared.geometry.Size.{Size}
+use Rattle.room_layout.specs.declared.geometry.Point.{Point}
 use Rattle.room_layout.specs.declared.geometry.Face.{Face}
 use Rattle.room_layout.specs.declared.geometry.Face.TheVariants.{Up, Down, East, West, North, South}
 use Rattle.room_layout.specs.declared.room.Block.{Block}
@@ -22,6 +23,8 @@ use Rattle.patch_mesh.specs.Surfaces.{at, room_surfaces, block_surfaces, surface
 use Rattle.patch_mesh.specs.Patches.{tiling_of, patch_at, row_patches, whole_row, first_rows, tiling_patches, tilings, patches}
 use Rattle.patch_mesh.specs.TaskPoints as points
 use Rattle.patch_mesh.proofs.CutLaws.{parts_few, parts_some, cut_within, cut_rises, middle_within}
+use Rattle.patch_mesh.specs.Tiling.{Tiles, RoomIsTiled}
+use Rattle.patch_mesh.proofs.PatchLaws.{tile}
 use Rattle.patch_mesh.proofs.Lists.{all_below, all_flat_below, all_map, all_flat}
 
 -- ---- surfaces
@@ -227,5 +230,34 @@ task_points_fit r h = all_flat_below (IsTaskPointIn r.size) (points.whole_row r)
 
 pub points_fit : (r : Room) (v : List TaskPoint) → IsAccepted r → v ≡ points.task_points r → All (IsTaskPointIn r.size) v
 points_fit r v h e = subst (λ (xs : List TaskPoint). All (IsTaskPointIn r.size) xs) (sym e) (task_points_fit r h)
+
+-- ---- in the largest room
+
+-- a number at most twice an edge of 50 m
+le_trans_z : (z : ℤ) (edge : ℕ) → edge ≤ 50000 → z ≤ℤ pos (2 * edge) → z ≤ℤ pos (2 * 100000)
+le_trans_z (pos n) edge h g = omega (arith, ints)
+le_trans_z (negsuc n) edge h g = omega (arith, ints)
+
+point_reaches : (room : Size) (p : Point) → IsRoomSize room → IsPointIn room p → IsPointIn largest_room p
+point_reaches room p r h = record { x = reach room.x p.x r.x.1 h.x; y = reach room.y p.y r.y.1 h.y; z = reach room.z p.z r.z.1 h.z }
+  where
+    reach : (edge : ℕ) (z : ℤ) → edge ≤ 50000 → IsAlong edge z → IsAlong 100000 z
+    reach edge z most (low, high) = (low, le_trans_z z edge most high)
+
+patch_reaches : (room : Size) → IsRoomSize room → (p : Patch) → IsPatchIn room p → IsPatchIn largest_room p
+patch_reaches room r p h = record { centre = point_reaches room p.centre r h.centre; some = h.some; area = h.area; reflect = h.reflect }
+
+pub patches_reach : (r : Room) (v : List Patch) → IsAccepted r → v ≡ patches r → All (IsPatchIn largest_room) v
+patches_reach r v h e = All-weaker (IsPatchIn r.size) (IsPatchIn largest_room) (patch_reaches r.size h.size) v (patches_fit r v h e)
+
+pub points_reach : (r : Room) (v : List TaskPoint) → IsAccepted r → v ≡ points.task_points r → All (IsTaskPointIn largest_room) v
+points_reach r v h e = All-weaker (IsTaskPointIn r.size) (IsTaskPointIn largest_room) (λ p g. record { at = point_reaches r.size p.at h.size g.at }) v (points_fit r v h e)
+
+-- ---- tiled
+
+pub room_tiled : RoomIsTiled
+unfolding tilings
+room_tiled r h = let p : 1 ≤ r.patch = omega (arith, h.patch.0) in
+    all_map (IsSurfaceIn r.size) (Tiles r.patch) (tiling_of r.patch) (λ s g. tile r.patch s p g.first g.second) (surfaces r) (surfaces_fit r h)
 
 pub ruleset blocks = (block_in_largest)

@@ -2,7 +2,7 @@
 ghost use Rattle.std.specs.Prelude.{◌≡◌, ◌+◌, ◌*◌, ◌/◌, ◌<◌, ◌≤◌, ◌++◌, [], All, IfOk, OnOk, vec_len};
 ghost use Rattle.room_layout.specs.Accepted.{IsAccepted};
 ghost use Rattle.room_layout.specs.Place.{middle_of_part};
-ghost use Rattle.patch_mesh.specs.Bounds.{IsTaskPointIn};
+ghost use Rattle.patch_mesh.specs.Bounds.{IsTaskPointIn, largest_room};
 ghost use Rattle.patch_mesh.specs.TaskPoints.{first_rows, row_points, task_point, task_points, whole_row};
 
 use crate::patch::TaskPoint;
@@ -67,6 +67,7 @@ pub fn task_points(alloc: Global, room: &Room) -> Result<Vec<TaskPoint>, Memory>
     ensures points { IfOk result (λ v. v.items ≡ task_points room.now) }
     ensures count { IfOk result (λ v. vec_len v ≡ room.now.task.nx * room.now.task.ny) }
     ensures each { IfOk result (λ v. All (IsTaskPointIn room.now.size) v.items) }
+    ensures reach { IfOk result (λ v. All (IsTaskPointIn largest_room) v.items) }
 {
     let mut points = Vec::new(alloc);
     for j in 0..room.task.ny {

@@ -89,6 +89,7 @@ pub fn mesh(alloc: Global, room: &Room) -> Result<Vec<Patch>, MeshFault>
     ensures patches { IfOk result (λ v. v.items ≡ patches room.now) }
     ensures few { IfOk result (λ v. vec_len v ≤ 2048) }
     ensures each { IfOk result (λ v. All (IsPatchIn room.now.size) v.items) }
+    ensures reach { IfOk result (λ v. All (IsPatchIn largest_room) v.items) }
     ensures refused { IfErr result (λ e. e ≢ MeshFault.Memory → (2048 < length (patches room.now)) × (e ≡ MeshFault.TooManyPatches (length (patches room.now)))) }
 {
     let tilings = match tilings(alloc, room) {

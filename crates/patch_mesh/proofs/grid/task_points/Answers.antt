@@ -1,6 +1,6 @@
 use Rattle.std.proofs.Common.{◌∙◌, sym}
 use Rattle.patch_mesh.proofs.PointLists.{rows_none, rows_step, rows_done, made_count}
-use Rattle.patch_mesh.proofs.Fits.{points_fit}
+use Rattle.patch_mesh.proofs.Fits.{points_fit, points_reach}
 use Rattle.patch_mesh.proofs.grid.task_points.Goals as goal
 
 pub loop-j-init : goal.loop-j-init
@@ -17,3 +17,6 @@ returns-clause-count c = let e = made_count c.args.room.now c.loop-j.points.item
 
 pub returns-clause-each : goal.returns-clause-each
 returns-clause-each c = points_fit _ _ c.requires.accepted (returns-clause-points c)
+
+pub returns-clause-reach : goal.returns-clause-reach
+returns-clause-reach c = points_reach _ _ c.requires.accepted (returns-clause-points c)

@@ -2,7 +2,7 @@ use Rattle.std.proofs.Common.{ap, ◌∙◌, subst, length, ◌<◌, ◌≡◌}
 use Rattle.std.specs.List.{flat_map}
 use Rattle.patch_mesh.specs.declared.patch.MeshFault.TheVariants.{TooManyPatches}
 use Rattle.patch_mesh.specs.Patches.{patches, tilings, tiling_patches}
-use Rattle.patch_mesh.proofs.Fits.{patches_fit}
+use Rattle.patch_mesh.proofs.Fits.{patches_fit, patches_reach}
 use Rattle.patch_mesh.proofs.make.mesh.Goals as goal
 
 pub returns-then-count-gt-MOST_PATCHES-clause-refused : goal.returns-then-count-gt-MOST_PATCHES-clause-refused
@@ -19,3 +19,6 @@ returns-in-Ok-all_patches-clause-patches c =
 
 pub returns-in-Ok-all_patches-clause-each : goal.returns-in-Ok-all_patches-clause-each
 returns-in-Ok-all_patches-clause-each c = patches_fit _ _ c.requires (returns-in-Ok-all_patches-clause-patches c)
+
+pub returns-in-Ok-all_patches-clause-reach : goal.returns-in-Ok-all_patches-clause-reach
+returns-in-Ok-all_patches-clause-reach c = patches_reach _ _ c.requires (returns-in-Ok-all_patches-clause-patches c)
