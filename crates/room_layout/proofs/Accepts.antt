@@ -1,23 +1,20 @@
 -- A room that the layout gives is within every range and limit.
-use Rattle.std.proofs.Common.{◌≡◌, ℕ, ◌+◌, ◌*◌, ◌<◌, ◌≤◌, ◌&&◌, Bool, true, false, nat_le, nat_lt, if◌then◌else◌, zero, suc, List, [], ◌∷◌, ◌++◌, length, get_or, All, Option, Some, None, IfSome, Result, Ok, Err, codes, refl, ap, subst, lit<, lit≤, sym, ◌∙◌, arith}
+use Rattle.std.proofs.Common.{◌≡◌, ℕ, ◌*◌, ◌<◌, ◌≤◌, ◌&&◌, Bool, true, nat_le, nat_lt, List, [], ◌∷◌, get_or, Option, Some, None, IfSome, Ok, codes, subst, lit<, lit≤, arith}
 use Rattle.std.proofs.lemmas.Bool.{and_parts}
 use Rattle.std.proofs.lemmas.Bool.Decides.{nat_tests}
 use Rattle.toml.specs.Data.{Data, Members, get_member}
 use Rattle.room_layout.specs.declared.fault.Key.TheVariants as key
 use Rattle.room_layout.specs.declared.fault.Spot.{Spot}
-use Rattle.room_layout.specs.declared.fault.RoomFault.{RoomFault}
 use Rattle.room_layout.specs.declared.fault.RoomFault.TheVariants as fault
 use Rattle.room_layout.specs.declared.geometry.Size.{Size}
 use Rattle.room_layout.specs.declared.room.Block.{Block}
-use Rattle.room_layout.specs.declared.room.Lamp.{Lamp}
-use Rattle.room_layout.specs.declared.room.Reflects.{Reflects}
 use Rattle.room_layout.specs.declared.room.TaskGrid.{TaskGrid}
 use Rattle.room_layout.specs.declared.room.Limits.{Limits}
 use Rattle.room_layout.specs.declared.parts.Shell.{Shell}
-use Rattle.room_layout.specs.Checks.{◌>>=◌, demand, spot, required, optional, where_given, number, numbers, table_with}
+use Rattle.room_layout.specs.Checks.{demand, spot, required, optional, where_given, number, numbers, table_with}
 use Rattle.room_layout.specs.Layout.{size_from, reflects_from, fits_in, is_above, room_keys, shell_of, box_keys, block_from, block_of, task_keys, task_from, is_rising, is_task_inside, task_of, limits_keys, limits_in, limits_of}
 use Rattle.room_layout.specs.Accepted.{IsBetween, IsRoomSize, AreReflects, IsBlockIn, IsTaskIn, AreLimits}
-use Rattle.room_layout.proofs.Ranges.{bind_ok, ok_same, demand_ok, AreBetween, number_between, required_numbers_between, required_number_between, optional_number_between, optional_numbers_between, no_reflects_between}
+use Rattle.room_layout.proofs.Ranges.{bind_ok, ok_same, demand_ok, AreBetween, number_between, required_numbers_between, optional_number_between, optional_numbers_between, no_reflects_between}
 
 -- ---- tests of sizes
 

@@ -1,5 +1,5 @@
 -- The lamps of a room that the layout gives, and the files that they use.
-use Rattle.std.proofs.Common.{◌≡◌, ℕ, ◌+◌, ◌*◌, ◌<◌, ◌≤◌, ◌&&◌, Bool, true, false, nat_le, zero, suc, List, [], ◌∷◌, ◌++◌, length, get_or, All, Option, Some, None, IfSome, Result, Ok, Err, cond, codes, refl, ap, subst, lit<, lit≤, sym, ◌∙◌, arith, length-append, append_assoc}
+use Rattle.std.proofs.Common.{◌≡◌, ℕ, ◌+◌, ◌*◌, ◌<◌, ◌≤◌, Bool, true, false, nat_le, zero, suc, List, [], ◌∷◌, ◌++◌, length, get_or, All, Option, Some, None, IfSome, Ok, Err, cond, codes, refl, ap, subst, lit<, lit≤, arith, length-append}
 use Rattle.std.specs.List.{position}
 use Rattle.std.proofs.lemmas.Bool.{and_parts}
 use Rattle.std.proofs.lemmas.List.Quantifiers.{position-Some}
@@ -15,10 +15,10 @@ use Rattle.room_layout.specs.declared.room.Shine.TheVariants.{Even, File}
 use Rattle.room_layout.specs.declared.room.FileUse.{FileUse}
 use Rattle.room_layout.specs.declared.parts.Lit.{Lit}
 use Rattle.room_layout.specs.Checks.{◌>>=◌, demand, spot, required, optional, where_given, kind, number, numbers, is_name, name_text, table_with}
-use Rattle.room_layout.specs.Layout.{size_from, fits_in, has_margin, is_same_use, placed_at, placed, shine_of, is_lamp_inside, lamp_keys, lamp_from, checked_lamp, lamp_of, lamps_from}
+use Rattle.room_layout.specs.Layout.{fits_in, has_margin, is_same_use, placed_at, placed, shine_of, is_lamp_inside, lamp_keys, lamp_from, checked_lamp, lamp_of, lamps_from}
 use Rattle.room_layout.specs.Accepted.{IsBetween, HasMargin, IsShine, IsLampIn, IsFileUse}
 use Rattle.room_layout.proofs.Accepts.{both, le_from, candela_accepted}
-use Rattle.room_layout.proofs.Ranges.{bind_ok, ok_same, demand_ok, AreBetween, optional_number_between, optional_numbers_between, no_size_between, no_split_between}
+use Rattle.room_layout.proofs.Ranges.{bind_ok, ok_same, demand_ok, optional_number_between, optional_numbers_between, no_size_between, no_split_between}
 
 -- ---- facts of each element
 

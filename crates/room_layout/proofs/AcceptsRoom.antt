@@ -1,32 +1,22 @@
 -- A room that the layout gives is accepted, and a room that the part that is served gives is plain besides.
-use Rattle.std.proofs.Common.{◌≡◌, ℕ, ◌+◌, ◌<◌, ◌≤◌, ◌||◌, Bool, true, false, not, nat_le, cond, zero, suc, List, [], ◌∷◌, length, All, Option, Some, None, is_some, Result, Ok, Err, codes, refl, ap, subst, lit<, lit≤, sym, ◌∙◌, arith}
-use Rattle.std.specs.List.{list_any}
-use Rattle.std.specs.Option.{option_map_or}
-use Rattle.std.specs.Str.{is_utf8}
-use Rattle.toml.specs.Data.{Data, Members, get_member, as_table, as_array}
-use Rattle.toml.specs.Parse.{parse_document}
+use Rattle.std.proofs.Common.{◌≡◌, ℕ, ◌+◌, ◌≤◌, Bool, true, false, not, nat_le, cond, suc, List, [], ◌∷◌, length, All, Option, Some, None, Ok, Err, codes, refl, ap, subst, lit≤, sym, arith}
+use Rattle.toml.specs.Data.{Data, Members, get_member}
 use Rattle.room_layout.specs.declared.fault.Key.TheVariants as key
 use Rattle.room_layout.specs.declared.fault.RoomFault.{RoomFault}
 use Rattle.room_layout.specs.declared.fault.RoomFault.TheVariants as fault
 use Rattle.room_layout.specs.declared.fault.Spot.{Spot}
 use Rattle.room_layout.specs.declared.geometry.Size.{Size}
 use Rattle.room_layout.specs.declared.room.Block.{Block}
-use Rattle.room_layout.specs.declared.room.Lamp.{Lamp}
-use Rattle.room_layout.specs.declared.room.Shine.{Shine}
-use Rattle.room_layout.specs.declared.room.Shine.TheVariants.{Even, File}
-use Rattle.room_layout.specs.declared.room.FileUse.{FileUse}
-use Rattle.room_layout.specs.declared.room.Reflects.{Reflects}
-use Rattle.room_layout.specs.declared.room.Limits.{Limits}
 use Rattle.room_layout.specs.declared.room.Room.{Room}
 use Rattle.room_layout.specs.declared.parts.Shell.{Shell}
 use Rattle.room_layout.specs.declared.parts.Lit.{Lit}
-use Rattle.room_layout.specs.Checks.{◌>>=◌, demand, spot, required, optional, where_given, kind, number, numbers, name_text, array, elements, items_list, has_only, table_with}
-use Rattle.room_layout.specs.Served.{unserved_of_document, unserved_of_room, unserved_of_lamp, has_any, has_any_in, has_any_in_each, is_unserved}
-use Rattle.room_layout.specs.Layout.{version_of, document_keys, room_keys, size_from, reflects_from, shell_of, block_of, blocks_from, blocks_of, lamp_keys, lamp_from, shine_of, checked_lamp, lamp_of, lamps_from, lamps_of, task_of, limits_in, limits_of, room_of_document, document_of, room_of, built_room_of_document, built_room_of}
-use Rattle.room_layout.specs.Accepted.{IsBlockIn, IsLampIn, IsFileUse, IsAccepted, IsPlainLamp, IsPlain}
+use Rattle.room_layout.specs.Checks.{◌>>=◌, demand, spot, optional, array, elements, has_only}
+use Rattle.room_layout.specs.Served.{is_unserved}
+use Rattle.room_layout.specs.Layout.{version_of, document_keys, shell_of, block_of, blocks_from, blocks_of, lamps_from, lamps_of, task_of, limits_of, room_of_document, document_of, room_of, built_room_of_document, built_room_of}
+use Rattle.room_layout.specs.Accepted.{IsBlockIn, IsFileUse, IsAccepted}
 use Rattle.room_layout.proofs.Ranges.{bind_ok, ok_same, demand_ok}
-use Rattle.room_layout.proofs.Accepts.{IsShell, le_from, shell_accepted, block_accepted, task_accepted, limits_accepted}
-use Rattle.room_layout.proofs.AcceptsLamps.{All-none, All-cons, AreLampsWith, checked_accepted, lamps_accepted}
+use Rattle.room_layout.proofs.Accepts.{le_from, shell_accepted, block_accepted, task_accepted, limits_accepted}
+use Rattle.room_layout.proofs.AcceptsLamps.{All-none, All-cons, AreLampsWith, lamps_accepted}
 
 -- ---- how many elements
 

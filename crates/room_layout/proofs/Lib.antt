@@ -7,3 +7,4 @@ pub mod AcceptsLamps
 pub mod AcceptsRoom
 pub mod Plain
 pub mod Document
+pub mod Reordered

@@ -1,5 +1,5 @@
 -- A document without the keys that aren't served yet gives what they have where they aren't given.
-use Rattle.std.proofs.Common.{◌≡◌, ℕ, ◌+◌, ◌||◌, Bool, true, false, nat_le, cond, List, [], ◌∷◌, length, All, Option, Some, None, is_some, option_map, Result, Ok, Err, codes, refl, ap, subst, lit<, sym, ◌∙◌, arith}
+use Rattle.std.proofs.Common.{◌≡◌, ℕ, ◌+◌, ◌||◌, Bool, true, false, nat_le, cond, List, [], ◌∷◌, length, All, Option, Some, None, is_some, option_map, Result, Ok, Err, codes, refl, ap, subst, sym, ◌∙◌}
 use Rattle.std.specs.List.{list_any}
 use Rattle.std.specs.Option.{option_map_or}
 use Rattle.toml.specs.Data.{Data, Items, Members, get_member, as_table, as_array}
@@ -17,13 +17,13 @@ use Rattle.room_layout.specs.declared.room.Limits.{Limits}
 use Rattle.room_layout.specs.declared.room.Room.{Room}
 use Rattle.room_layout.specs.declared.parts.Shell.{Shell}
 use Rattle.room_layout.specs.declared.parts.Lit.{Lit}
-use Rattle.room_layout.specs.Checks.{◌>>=◌, demand, spot, required, optional, where_given, kind, number, numbers, name_text, array, elements, items_list, has_only, table_with}
+use Rattle.room_layout.specs.Checks.{◌>>=◌, spot, required, optional, where_given, kind, number, numbers, name_text, array, elements, items_list, has_only, table_with}
 use Rattle.room_layout.specs.Served.{unserved_of_document, unserved_of_room, unserved_of_lamp, has_any, has_any_in, has_any_in_each, is_unserved}
-use Rattle.room_layout.specs.Layout.{room_keys, size_from, reflects_from, shell_of, blocks_from, blocks_of, lamp_keys, lamp_from, shine_of, checked_lamp, lamp_of, lamps_from, lamps_of, limits_in, limits_of, room_of_document, document_of, built_room_of_document, built_room_of}
+use Rattle.room_layout.specs.Layout.{room_keys, size_from, reflects_from, shell_of, blocks_from, blocks_of, lamp_keys, lamp_from, shine_of, lamp_of, lamps_from, lamps_of, limits_in, limits_of, document_of, built_room_of_document, built_room_of}
 use Rattle.room_layout.specs.Accepted.{IsPlainLamp, IsPlain}
 use Rattle.room_layout.proofs.Ranges.{bind_ok, ok_same}
 use Rattle.room_layout.proofs.AcceptsLamps.{All-none, All-cons, checked_accepted, HasLampParts, lamp_parts, lamp_of_parts}
-use Rattle.room_layout.proofs.AcceptsRoom.{HasParts, room_parts, built_part}
+use Rattle.room_layout.proofs.AcceptsRoom.{room_parts, built_part}
 
 -- ---- keys that aren't given
 

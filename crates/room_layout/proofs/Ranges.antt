@@ -1,5 +1,5 @@
 -- What a check that gives a value says of it.
-use Rattle.std.proofs.Common.{◌≡◌, ℕ, ℤ, pos, negsuc, ◌<◌, ◌≤◌, ◌==◌, ◌&&◌, zero, suc, Bool, true, false, nat_le, if◌then◌else◌, List, [], ◌∷◌, length, get_or, Option, Some, None, Result, Ok, Err, refl, ap, subst, lit<, lit≤, arith}
+use Rattle.std.proofs.Common.{◌≡◌, ℕ, ℤ, pos, negsuc, ◌<◌, ◌==◌, ◌&&◌, zero, suc, Bool, true, false, nat_le, if◌then◌else◌, List, [], ◌∷◌, length, get_or, Option, Some, None, Result, Ok, Err, refl, ap, subst, lit≤, arith}
 use Rattle.std.specs.List.{list_all}
 use Rattle.std.proofs.lemmas.Bool.{and_parts}
 use Rattle.std.proofs.lemmas.Bool.Decides.{nat_tests}
@@ -7,7 +7,7 @@ use Rattle.toml.specs.Data.{Data, as_integer}
 use Rattle.room_layout.specs.declared.fault.RoomFault.{RoomFault}
 use Rattle.room_layout.specs.declared.fault.RoomFault.TheVariants as fault
 use Rattle.room_layout.specs.declared.fault.Spot.{Spot}
-use Rattle.room_layout.specs.Checks.{◌>>=◌, demand, each, required, optional, where_given, kind, in_range, ranged, number, is_integer, array, all_numbers, numbers}
+use Rattle.room_layout.specs.Checks.{◌>>=◌, demand, each, required, optional, kind, in_range, ranged, number, is_integer, array, all_numbers, numbers}
 use Rattle.room_layout.specs.Accepted.{IsBetween}
 
 -- the first of two checks gave a value, and the second gave the answer from it

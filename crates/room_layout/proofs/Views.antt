@@ -1,11 +1,11 @@
 -- Values, arrays and tables as the layout's checks see them.
-use Rattle.std.proofs.Common.{◌≡◌, ℕ, Bool, ◌||◌, ◌&&◌, List, [], ◌∷◌, map, Result, Ok, Err, refl, ap, String, Global, string_bytes}
+use Rattle.std.proofs.Common.{◌≡◌, ℕ, Bool, ◌||◌, ◌&&◌, List, [], ◌∷◌, map, refl, ap, String, Global, string_bytes}
 use Rattle.std.specs.List.{list_all, list_any}
 use Rattle.std.specs.Map.{keys_of as map_keys}
-use Rattle.toml.specs.Data.{Data, Items}
-use Rattle.toml.specs.View.{view, items_of, items_view, members_view}
+use Rattle.toml.specs.Data.{Data}
+use Rattle.toml.specs.View.{items_of, members_view}
 use Rattle.toml.specs.declared.value.Value.{Value}
-use Rattle.room_layout.specs.Checks.{items_list, keys_of, is_among, has_only}
+use Rattle.room_layout.specs.Checks.{items_list, is_among, has_only}
 
 -- the items of a list are that list
 pub items_list-items_of : (ds : List Data) → items_list (items_of ds) ≡ ds

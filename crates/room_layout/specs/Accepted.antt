@@ -1,5 +1,5 @@
 -- The rooms that the layout accepts, and those of them that have only the keys that are served.
-use Rattle.std.specs.Prelude.{◌≡◌, ℕ, ◌+◌, ◌*◌, ◌<◌, ◌≤◌, true, List, [], length, All, None, IfSome}
+use Rattle.std.specs.Prelude.{◌≡◌, ℕ, ◌+◌, ◌*◌, ◌<◌, ◌≤◌, true, [], length, All, None, IfSome}
 use Rattle.room_layout.specs.Checks.{is_name}
 use Rattle.room_layout.specs.declared.geometry.Size.{Size}
 use Rattle.room_layout.specs.declared.room.Reflects.{Reflects}

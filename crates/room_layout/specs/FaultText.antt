@@ -1,5 +1,5 @@
 -- How a refused layout is printed.
-use Rattle.std.specs.Prelude.{ℕ, List, [], ◌∷◌, ◌++◌, Bool, true, false, if◌then◌else◌, codes}
+use Rattle.std.specs.Prelude.{ℕ, List, ◌++◌, Bool, true, false, if◌then◌else◌, codes}
 use Rattle.std.specs.Fmt.{decimal}
 use Rattle.room_layout.specs.declared.fault.Key.{Key}
 use Rattle.room_layout.specs.declared.fault.Key.TheVariants as key

@@ -1,7 +1,7 @@
 -- Task points and distances of a hall of 6000 by 6000 mm, by hand.
 use Rattle.std.specs.Prelude.{◌≡◌, refl, pos}
 use Rattle.room_layout.specs.declared.geometry.Face.TheVariants.{Up, Down}
-use Rattle.room_layout.specs.Place.{Place, place_of, point_of, place_of_size, in_front, squared_distance, task_place}
+use Rattle.room_layout.specs.Place.{place_of, point_of, place_of_size, in_front, squared_distance, task_place}
 
 -- one point over the whole floor stands in its middle
 middle : task_place (record { from_x = 0; from_y = 0; to_x = 6000; to_y = 6000; height = 0; nx = 1; ny = 1 }) 0 0 ≡ record { x = 6000; y = 6000; z = 0 }

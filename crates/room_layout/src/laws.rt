@@ -1,5 +1,5 @@
 //! Laws of the layout: each function's clause is the law, and the function does nothing.
-ghost use Rattle.room_layout.specs.Laws.{GivesAccepted, ServesPart, GivesPlain};
+ghost use Rattle.room_layout.specs.Laws.{GivesAccepted, ServesPart, GivesPlain, IgnoresOrder};
 
 /// A room that the whole layout gives is within every range and limit.
 pub fn gives_accepted()
@@ -14,4 +14,9 @@ pub fn serves_part()
 /// A room that the served part gives has what the other keys have where they aren't given.
 pub fn gives_plain()
     ensures { GivesPlain }
+{}
+
+/// Documents that differ only in the order of their keys give the same answer.
+pub fn ignores_order()
+    ensures { IgnoresOrder }
 {}
