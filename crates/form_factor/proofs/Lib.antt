@@ -1,0 +1,6 @@
+pub mod Rounded
+pub mod Apart
+pub mod Pi
+pub mod Kernel
+pub mod Spread
+pub mod Coefficients

@@ -1,0 +1,5 @@
+pub mod Coefficient
+pub mod CoefficientTests
+pub mod Weights
+pub mod Positions
+pub mod Laws

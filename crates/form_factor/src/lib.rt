@@ -1,0 +1,14 @@
+//! How much of a patch's light reaches another patch or a point: coefficients as weights in ticks that meet, at every depth,
+//! what the enclosures of pi give.
+#![tactic(auto)]
+
+pub mod laws;
+mod pi_ends;
+mod position;
+mod reach;
+mod weigh;
+
+pub use reach::{factor, point_factor};
+
+#[cfg(test)]
+mod tests;

@@ -1,0 +1,77 @@
+//! The task points of a room.
+ghost use Rattle.std.specs.Prelude.{◌≡◌, ◌+◌, ◌*◌, ◌/◌, ◌<◌, ◌≤◌, ◌++◌, [], All, IfOk, OnOk, vec_len};
+ghost use Rattle.room_layout.specs.Accepted.{IsAccepted};
+ghost use Rattle.room_layout.specs.Place.{middle_of_part};
+ghost use Rattle.patch_mesh.specs.Bounds.{IsTaskPointIn, largest_room};
+ghost use Rattle.patch_mesh.specs.TaskPoints.{first_rows, row_points, task_point, task_points, whole_row};
+
+use crate::patch::TaskPoint;
+use fx_base::Memory;
+use room_layout::{Point, Room};
+use std::alloc::Global;
+
+/// The middle, in half mm, of part `i` of an edge in mm that is cut into equal parts.
+#[tactic(auto, using(crate::proofs::CutLaws::middles))]
+fn middle_of(from: u32, to: u32, parts: u32, i: u32) -> u32
+    requires edge { from ≤ to }
+    requires most { to ≤ 50000 }
+    requires parts { parts ≤ 1024 }
+    requires part { i < parts }
+    ensures middle { result ≡ middle_of_part from to parts i }
+    ensures within { result ≤ 2 * to }
+{
+    2 * from + (2 * i + 1) * (to - from) / parts
+}
+
+/// The task point in column `i` of row `j`.
+#[tactic(auto, using(crate::proofs::CutLaws::grids), unfolding(crate::specs::TaskPoints::task_point, room_layout::specs::Place::task_place))]
+fn task_point(room: &Room, j: u32, i: u32) -> TaskPoint
+    requires accepted { IsAccepted room.now }
+    requires bare { room.now.blocks ≡ [] }
+    requires row { j < room.now.task.ny }
+    requires column { i < room.now.task.nx }
+    ensures { result ≡ task_point room.now j i }
+{
+    let task = room.task;
+    TaskPoint {
+        at: Point {
+            x: middle_of(task.from_x, task.to_x, task.nx, i) as i32,
+            y: middle_of(task.from_y, task.to_y, task.ny, j) as i32,
+            z: (2 * task.height) as i32,
+        },
+        covered: false,
+    }
+}
+
+/// Puts the points of row `j` at the end of the list.
+fn put_row(points: &mut Vec<TaskPoint>, room: &Room, j: u32) -> Result<(), Memory>
+    requires accepted { IsAccepted room.now }
+    requires bare { room.now.blocks ≡ [] }
+    requires row { j < room.now.task.ny }
+    ensures { OnOk result (points.new.items ≡ points.old.items ++ whole_row room.now j) }
+{
+    for i in 0..room.task.nx {
+        match points.push(task_point(room, j, i)) {
+            Ok(()) => {}
+            Err(_) => return Err(Memory),
+        }
+    }
+    Ok(())
+}
+
+/// The task points of a room that has no boxes, by row, then by column: each in the middle of its part of the task rectangle,
+/// rounded down to half a millimetre, and facing up.
+pub fn task_points(alloc: Global, room: &Room) -> Result<Vec<TaskPoint>, Memory>
+    requires accepted { IsAccepted room.now }
+    requires bare { room.now.blocks ≡ [] }
+    ensures points { IfOk result (λ v. v.items ≡ task_points room.now) }
+    ensures count { IfOk result (λ v. vec_len v ≡ room.now.task.nx * room.now.task.ny) }
+    ensures each { IfOk result (λ v. All (IsTaskPointIn room.now.size) v.items) }
+    ensures reach { IfOk result (λ v. All (IsTaskPointIn largest_room) v.items) }
+{
+    let mut points = Vec::new(alloc);
+    for j in 0..room.task.ny {
+        put_row(&mut points, room, j)?;
+    }
+    Ok(points)
+}
