@@ -1,0 +1,6 @@
+pub mod Line
+pub mod Between
+pub mod Outward
+pub mod Knots
+pub mod Corners
+pub mod Sheet

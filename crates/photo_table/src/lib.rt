@@ -1,0 +1,4 @@
+//! Intensities of a lamp by direction.
+#![tactic(auto)]
+
+pub mod laws;
