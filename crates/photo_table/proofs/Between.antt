@@ -3,7 +3,7 @@ use Rattle.std.proofs.Common.{ℕ, ◌+◌, ◌-◌, ◌*◌, ◌<◌, ◌≤◌
 use Rattle.std.proofs.Math.Nat.{mul-pos, le-max_left, mul-le-mul_left, mul-sub}
 use Rattle.fx_base.specs.Fraction.{Fraction, ◌≤ᶠ◌, ◌≈ᶠ◌, whole, ◌+ᶠ◌, ◌*ᶠ◌}
 use Rattle.fx_base.specs.Units.{millionths}
-use Rattle.fx_base.proofs.Order.{le_refl_f, le_trans_f, le_of_eq_f, ge_of_eq_f, eq_of_le_f, add_le_f, mul_le_f}
+use Rattle.fx_base.proofs.Order.{le_refl_f, le_trans_f, le_of_eq_f, ge_of_eq_f, eq_of_le_f, add_le_f, mul_le_f, mul_add_right_f, add_pairs_f, add_mul_f, mul_one_f}
 use Rattle.photo_table.specs.Axis.{behind, ahead, between}
 use Rattle.photo_table.proofs.Line.{line_at_most, line_at_least, whole_way, more_behind, more_of_the_way, cross_at_most, cross_at_most_back, cross_at_least, cross_at_least_back}
 
@@ -190,3 +190,25 @@ pub swap_axes : (a b c d : ℕ) (x y p q r s : Fraction) →
     between x a (between y c p d q) b (between y c r d s) ≈ᶠ between y c (between x a p b r) d (between x a q b s)
 unfolding between
 swap_axes a b c d x y p q r s = swap_sums p q r s (ahead a b x) (behind a b x) (ahead c d y) (behind c d y)
+
+-- ---- values a little off
+
+ahead_and_behind : (a b : ℕ) (x : Fraction) → IsOn a b x → (ahead a b x +ᶠ behind a b x) ≤ᶠ whole 1
+unfolding ahead behind num_ahead num_behind way ◌+ᶠ◌ whole
+ahead_and_behind a b x on = record { cross = sum_of_way (num_ahead b x) (num_behind a x) (way a b x) (way_is a b x on) }
+  where
+    sum_of_way : (A B D : ℕ) → A + B ≡ D → (A * D + B * D) * 1 ≤ 1 * (D * D)
+    sum_of_way A B D e = let f = ap (λ (z : ℕ). z * D) e in omega (arith, f)
+
+-- values at most e above others give a value at most e above
+pub between_near : (a b : ℕ) (x u v u' v' e : Fraction) → IsOn a b x → u ≤ᶠ (u' +ᶠ e) → v ≤ᶠ (v' +ᶠ e)
+    → between x a u b v ≤ᶠ (between x a u' b v' +ᶠ e)
+unfolding between
+between_near a b x u v u' v' e on g h =
+    let l = ahead a b x in
+    let r = behind a b x in
+    le_trans_f (between_le a b x u v (u' +ᶠ e) (v' +ᶠ e) g h)
+    (le_trans_f (add_le_f (mul_add_right_f u' e l) (mul_add_right_f v' e r))
+    (le_trans_f (add_pairs_f (u' *ᶠ l) (e *ᶠ l) (v' *ᶠ r) (e *ᶠ r))
+    (add_le_f (le_refl_f ((u' *ᶠ l) +ᶠ (v' *ᶠ r)))
+        (le_trans_f (add_mul_f e l r) (le_trans_f (mul_le_f (le_refl_f e) (ahead_and_behind a b x on)) (mul_one_f e))))))

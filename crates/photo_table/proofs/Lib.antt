@@ -4,3 +4,5 @@ pub mod Outward
 pub mod Knots
 pub mod Corners
 pub mod Sheet
+pub mod Tables
+pub mod Hulls
