@@ -6,3 +6,4 @@ pub mod Corners
 pub mod Sheet
 pub mod Tables
 pub mod Hulls
+pub mod HullLaws
