@@ -7,3 +7,5 @@ pub mod Sheet
 pub mod Tables
 pub mod Hulls
 pub mod HullLaws
+pub mod Lists
+pub mod Corner

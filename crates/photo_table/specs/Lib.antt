@@ -4,4 +4,5 @@ pub mod Table
 pub mod Hull
 pub mod Laws
 pub mod Kept
+pub mod Grid
 pub mod Tests
