@@ -9,3 +9,5 @@ pub mod Hulls
 pub mod HullLaws
 pub mod Lists
 pub mod Corner
+pub mod Sweeps
+pub mod Greatest

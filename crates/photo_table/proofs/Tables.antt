@@ -290,3 +290,18 @@ end_near s t end other e hs ht near x y low = elim (stands s hs y) [
       (le_trans_f (between_near (plane t i) (plane t (suc i)) x _ _ _ _ e on_x (row i) (row (suc i)))
           (add_le_f (ge_of_eq_f ((end_straight other t ht i j within).value x y on_x on_y)) (le_refl_f e)))
 ]
+
+-- ---- steps of planes
+
+pub millionths_lt : (m n : ℕ) → m < n → millionths m <ᶠ millionths n
+unfolding millionths
+millionths_lt m n h = record { cross = omega arith }
+
+-- a plane is at most a turn after the one before it
+pub plane_step : (t : Table) → IsTable t → (i : ℕ) → plane t (i + 1) ≤ plane t i + 360000000
+plane_step t h i =
+    let n = length t.planes in
+    let s = h.some_plane in
+    let e : i + n * 1 ≡ i + n = omega arith in
+    let l = plane_le t h (i + 1) (i + n * 1) (omega arith) in
+    let m = plane_later t h i 1 in omega arith

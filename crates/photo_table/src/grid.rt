@@ -1,8 +1,8 @@
 ghost use Rattle.photo_table.specs.Kept.{IsKept};
 
-use crate::part::{DARK, Part, joined, rounded, weighed};
+use crate::part::{DARK, Part, joined, part_of, rounded, weighed};
 use crate::search::{angle_at, count_up_to};
-use fx_base::{Bracket, Micro, Span, Tick, magnitude, tick_of};
+use fx_base::{Bracket, Micro, Span, tick_of};
 
 /// A whole turn.
 const TURN: u64 = 360_000_000;
@@ -56,11 +56,7 @@ impl Grid {
         ensures most { result.hi ≤ 687194767360000000 }
     {
         let place = i % self.planes.len() * self.gammas.len() + j;
-        let span = &self.values[place];
-        Part {
-            lo: magnitude(span.lo()),
-            hi: magnitude(span.hi()),
-        }
+        part_of(&self.values[place])
     }
 
     /// The number of the last plane that isn't above x.
@@ -138,7 +134,9 @@ impl Grid {
         ensures rounds { Rounds (gamma_extreme lesser lower (table_in self.now) (angles_between low high) (millionths x)) (gamma_extreme greater upper (table_in self.now) (angles_between low high) (millionths x)) result.lo result.hi }
     {
         let mut part = joined(self.at(i, x, low), self.at(i, x, high));
-        for j in count_up_to(&self.gammas, low)..count_up_to(&self.gammas, high) {
+        let first = count_up_to(&self.gammas, low);
+        let last = count_up_to(&self.gammas, high);
+        for j in first..last {
             part = joined(part, self.at(i, x, self.gamma_at(j)));
         }
         part
@@ -190,13 +188,14 @@ impl Grid {
         ensures low_most { result.lo ≤ 687194767360000000 }
         ensures high_most { result.hi ≤ 687194767360000000 }
     {
-        let mut part = DARK;
+        let mut greatest = part_of(&self.values[0]);
         for span in &self.values {
-            part = Part {
-                lo: part.lo.max(magnitude(span.lo())),
-                hi: part.hi.max(magnitude(span.hi())),
+            let part = part_of(span);
+            greatest = Part {
+                lo: greatest.lo.max(part.lo),
+                hi: greatest.hi.max(part.hi),
             };
         }
-        part
+        greatest
     }
 }

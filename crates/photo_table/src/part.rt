@@ -1,5 +1,9 @@
 ghost use Rattle.std.specs.Prelude.{◌≡◌, ◌+◌, ◌*◌, ◌/◌, ◌^◌, ◌<◌, ◌≤◌, min, max};
 ghost use Rattle.std.specs.Int.{div_ceil};
+ghost use Rattle.fx_base.specs.Units.{natural};
+ghost use Rattle.photo_table.specs.Kept.{IsIntensity};
+
+use fx_base::{Span, magnitude};
 
 /// An intensity between two ends in ticks of 2^-36 cd.
 #[derive(Clone, Copy, Debug)]
@@ -10,6 +14,21 @@ pub struct Part {
 
 /// No light.
 pub const DARK: Part = Part { lo: 0, hi: 0 };
+
+/// The ends of a span.
+#[tactic(auto, using(fx_base::proofs::Rounding::natural_rule))]
+pub fn part_of(span: &Span) -> Part
+    requires { IsIntensity span.now }
+    ensures low { result.lo ≡ natural span.now.lo }
+    ensures high { result.hi ≡ natural span.now.hi }
+    ensures in_order { result.lo ≤ result.hi }
+    ensures most { result.hi ≤ 687194767360000000 }
+{
+    Part {
+        lo: magnitude(span.lo()),
+        hi: magnitude(span.hi()),
+    }
+}
 
 /// What holds both.
 pub fn joined(a: Part, b: Part) -> Part
