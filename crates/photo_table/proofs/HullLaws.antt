@@ -25,7 +25,7 @@ pub turn_later_is : (x : Fraction) → turn_later x ≈ᶠ (x +ᶠ whole 360)
 unfolding turn_later ◌+ᶠ◌ whole
 turn_later_is x = record { cross = omega arith }
 
-first_is : (t : Table) → IsTable t → plane t 0 ≡ slice_index_or t.planes 0 0
+pub first_is : (t : Table) → IsTable t → plane t 0 ≡ slice_index_or t.planes 0 0
 first_is t h =
     let e : 0 * length t.planes + 0 ≡ 0 = omega arith in
     let f = plane_at t 0 0 h.some_plane in

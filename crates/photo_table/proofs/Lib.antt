@@ -11,3 +11,4 @@ pub mod Lists
 pub mod Corner
 pub mod Sweeps
 pub mod Greatest
+pub mod Bright

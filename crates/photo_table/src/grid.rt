@@ -1,7 +1,7 @@
 ghost use Rattle.photo_table.specs.Kept.{IsKept};
 
 use crate::part::{DARK, Part, joined, part_of, rounded, weighed};
-use crate::search::{angle_at, count_up_to};
+use crate::search::{angle, angle_at, count_up_to};
 use fx_base::{Bracket, Micro, Span, tick_of};
 
 /// A whole turn.
@@ -163,6 +163,7 @@ impl Grid {
     }
 
     /// The hull over two brackets.
+    #[tactic(auto, using(fx_base::proofs::Rounding::natural_rule))]
     pub fn hull(&self, c: Bracket, g: Bracket) -> Span
         requires c_not_negative { pos 0 ≤ℤ c.lo.0 }
         requires c_below { natural c.lo.0 < 360000000 }
@@ -175,9 +176,11 @@ impl Grid {
         ensures most { (m : ℕ) → IsGreatest upper (table_in self.now) (ticks m) → natural result.hi ≤ m + 1 }
         ensures bright { natural result.hi ≤ 687194767360000001 }
     {
-        let left = c.lo.0 as u64 + TURN;
-        let right = c.hi.0 as u64 + TURN;
-        let part = self.sweep(left, right, g.lo.0 as u64, g.hi.0 as u64);
+        let left = angle(c.lo) + TURN;
+        let right = angle(c.hi) + TURN;
+        let low = angle(g.lo);
+        let high = angle(g.hi);
+        let part = self.sweep(left, right, low, high);
         Span::new(tick_of(part.lo), tick_of(part.hi))
     }
 

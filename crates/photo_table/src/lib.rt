@@ -2,12 +2,13 @@
 //! and the hull of its intensities over a bracket of C and one of gamma.
 #![tactic(auto)]
 
+mod even;
 mod grid;
 pub mod laws;
 mod part;
 mod search;
-
+mod summary;
 mod table;
 
-
+pub use summary::summary_text;
 pub use table::PhotoTable;

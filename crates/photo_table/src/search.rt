@@ -1,8 +1,17 @@
 ghost use Rattle.std.specs.Prelude.{◌≡◌, ℕ, ◌+◌, ◌-◌, ◌*◌, ◌/◌, ◌^◌, ◌<◌, ◌≤◌, ◌≤ℤ◌, pos, length, map, slice_index_or};
 ghost use Rattle.fx_base.specs.declared.Micro.{Micro};
+ghost use Rattle.fx_base.specs.Units.{natural};
 ghost use Rattle.photo_table.specs.Kept.{angle_of};
 
 use fx_base::Micro;
+
+/// An angle in millionths of a degree.
+pub fn angle(m: Micro) -> u64
+    requires { pos 0 ≤ℤ m.0 }
+    ensures { result ≡ natural m.0 }
+{
+    m.0 as u64
+}
 
 /// The angle i in millionths of a degree.
 #[tactic(auto, using(crate::proofs::Lists::angle_read))]
@@ -11,7 +20,7 @@ pub fn angle_at(angles: &[Micro], i: usize) -> u64
     requires not_negative { (k : ℕ) (d : Micro) → k < length angles.now → pos 0 ≤ℤ (slice_index_or angles.now k d).0 }
     ensures { result ≡ slice_index_or (map angle_of angles.now) i 0 }
 {
-    angles[i].0 as u64
+    angle(angles[i])
 }
 
 /// How many of the rising angles are at most x, by halves.

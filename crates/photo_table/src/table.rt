@@ -1,3 +1,4 @@
+use crate::even::even_grid;
 use crate::grid::Grid;
 use fx_base::{Bracket, Memory, Micro, Span, Tick, tick_of};
 use std::alloc::Global;
@@ -44,6 +45,17 @@ impl PhotoTable {
         }
     }
 
+    /// The table of `candela` in all directions: one plane, and gammas 0 and 180.
+    pub fn even(alloc: Global, candela: u32) -> Result<PhotoTable, Memory>
+        requires { candela ≤ 10000000 }
+        ensures { IfOk result (λ t. t ≡ even_table candela) }
+    {
+        match even_grid(alloc, candela) {
+            Ok(grid) => Ok(PhotoTable { grid }),
+            Err(_) => Err(Memory),
+        }
+    }
+
     /// The hull of the intensities over a bracket of C, which may run over the end of a turn, and one of gamma: it contains the
     /// intensity in each of these directions, and each of its ends is at most a tick of 2^-36 cd outside of the exact one.
     pub fn hull(&self, c: Bracket, g: Bracket) -> Span
@@ -72,6 +84,15 @@ impl PhotoTable {
         ensures bright { natural result.0 ≤ 687194767360000000 }
     {
         tick_of(self.grid.greatest_ends().hi)
+    }
+
+    /// The greatest lower end.
+    pub fn greatest_lower(&self) -> Tick
+        ensures greatest { IsGreatest lower self.now (ticks (natural result.0)) }
+        ensures not_negative { pos 0 ≤ℤ result.0 }
+        ensures bright { natural result.0 ≤ 687194767360000000 }
+    {
+        tick_of(self.grid.greatest_ends().lo)
     }
 
     /// How many planes there are.
