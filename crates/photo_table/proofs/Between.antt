@@ -34,8 +34,8 @@ steeper : (a b : ℕ) (x y : Fraction) → IsOn a b x → IsOn a b y → x ≤�
 unfolding way num_behind
 steeper a b x y on_x on_y h =
     more_of_the_way (num_ahead b x) (num_behind a x) (num_ahead b y) (num_behind a y) x.den y.den (max 1 (b - a))
-        (way_is a b x on_x) (way_is a b y on_y)
-        (more_behind a (x.num * 1000000) x.den (y.num * 1000000) y.den (omega (arith, h.cross)))
+    (way_is a b x on_x) (way_is a b y on_y)
+    (more_behind a (x.num * 1000000) x.den (y.num * 1000000) y.den (omega (arith, h.cross)))
 
 -- ---- the value against a bound
 
@@ -75,19 +75,19 @@ pub between_at_most : (a b : ℕ) (u v m y x z : Fraction) → IsOn a b y → Is
     → between y a u b v ≤ᶠ m → between z a u b v ≤ᶠ m → between x a u b v ≤ᶠ m
 between_at_most a b u v m y x z on_y on_x on_z g h p q =
     at_most_if a b u v m x on_x
-        (line_at_most (u.num * (v.den * m.den)) (v.num * (u.den * m.den)) (m.num * (u.den * v.den))
-            (num_ahead b x) (num_behind a x) (num_ahead b y) (num_behind a y) (num_ahead b z) (num_behind a z)
-            (way_pos a b y on_y) (way_pos a b z on_z) (at_most_back a b u v m y on_y p) (at_most_back a b u v m z on_z q)
-            (steeper a b y x on_y on_x g) (steeper a b x z on_x on_z h))
+    (line_at_most (u.num * (v.den * m.den)) (v.num * (u.den * m.den)) (m.num * (u.den * v.den))
+    (num_ahead b x) (num_behind a x) (num_ahead b y) (num_behind a y) (num_ahead b z) (num_behind a z)
+    (way_pos a b y on_y) (way_pos a b z on_z) (at_most_back a b u v m y on_y p) (at_most_back a b u v m z on_z q)
+    (steeper a b y x on_y on_x g) (steeper a b x z on_x on_z h))
 
 pub between_at_least : (a b : ℕ) (u v m y x z : Fraction) → IsOn a b y → IsOn a b x → IsOn a b z → y ≤ᶠ x → x ≤ᶠ z
     → m ≤ᶠ between y a u b v → m ≤ᶠ between z a u b v → m ≤ᶠ between x a u b v
 between_at_least a b u v m y x z on_y on_x on_z g h p q =
     at_least_if a b u v m x on_x
-        (line_at_least (u.num * (v.den * m.den)) (v.num * (u.den * m.den)) (m.num * (u.den * v.den))
-            (num_ahead b x) (num_behind a x) (num_ahead b y) (num_behind a y) (num_ahead b z) (num_behind a z)
-            (way_pos a b y on_y) (way_pos a b z on_z) (at_least_back a b u v m y on_y p) (at_least_back a b u v m z on_z q)
-            (steeper a b y x on_y on_x g) (steeper a b x z on_x on_z h))
+    (line_at_least (u.num * (v.den * m.den)) (v.num * (u.den * m.den)) (m.num * (u.den * v.den))
+    (num_ahead b x) (num_behind a x) (num_ahead b y) (num_behind a y) (num_ahead b z) (num_behind a z)
+    (way_pos a b y on_y) (way_pos a b z on_z) (at_least_back a b u v m y on_y p) (at_least_back a b u v m z on_z q)
+    (steeper a b y x on_y on_x g) (steeper a b x z on_x on_z h))
 
 -- ---- at the knots
 
@@ -145,7 +145,7 @@ ahead_moved a b turns x y h =
     record {
       cross = rw (same_way a b (360000000 * turns))
           (scaled ((b + 360000000 * turns) * y.den - y.num * 1000000) (b * x.den - x.num * 1000000) x.den y.den (max 1 (b - a))
-              (cross_moved_ahead b (x.num * 1000000) x.den (y.num * 1000000) y.den (360000000 * turns) e));
+          (cross_moved_ahead b (x.num * 1000000) x.den (y.num * 1000000) y.den (360000000 * turns) e));
     }
 
 pub behind_moved : (a b turns : ℕ) (x y : Fraction) → y ≈ᶠ (x +ᶠ whole (360 * turns))
@@ -156,7 +156,7 @@ behind_moved a b turns x y h =
     record {
       cross = rw (same_way a b (360000000 * turns))
           (scaled (y.num * 1000000 - (a + 360000000 * turns) * y.den) (x.num * 1000000 - a * x.den) x.den y.den (max 1 (b - a))
-              (cross_moved_behind a (x.num * 1000000) x.den (y.num * 1000000) y.den (360000000 * turns) e));
+          (cross_moved_behind a (x.num * 1000000) x.den (y.num * 1000000) y.den (360000000 * turns) e));
     }
 
 pub between_moved : (a b turns : ℕ) (x y u v : Fraction) → y ≈ᶠ (x +ᶠ whole (360 * turns))
@@ -166,8 +166,8 @@ between_moved a b turns x y u v h =
     let l = ahead_moved a b turns x y h in
     let r = behind_moved a b turns x y h in
     eq_of_le_f
-        (add_le_f (mul_le_f (le_refl_f u) (le_of_eq_f l)) (mul_le_f (le_refl_f v) (le_of_eq_f r)))
-        (add_le_f (mul_le_f (le_refl_f u) (ge_of_eq_f l)) (mul_le_f (le_refl_f v) (ge_of_eq_f r)))
+    (add_le_f (mul_le_f (le_refl_f u) (le_of_eq_f l)) (mul_le_f (le_refl_f v) (le_of_eq_f r)))
+    (add_le_f (mul_le_f (le_refl_f u) (ge_of_eq_f l)) (mul_le_f (le_refl_f v) (ge_of_eq_f r)))
 
 -- ---- order
 
@@ -211,4 +211,4 @@ between_near a b x u v u' v' e on g h =
     (le_trans_f (add_le_f (mul_add_right_f u' e l) (mul_add_right_f v' e r))
     (le_trans_f (add_pairs_f (u' *ᶠ l) (e *ᶠ l) (v' *ᶠ r) (e *ᶠ r))
     (add_le_f (le_refl_f ((u' *ᶠ l) +ᶠ (v' *ᶠ r)))
-        (le_trans_f (add_mul_f e l r) (le_trans_f (mul_le_f (le_refl_f e) (ahead_and_behind a b x on)) (mul_one_f e))))))
+    (le_trans_f (add_mul_f e l r) (le_trans_f (mul_le_f (le_refl_f e) (ahead_and_behind a b x on)) (mul_one_f e))))))

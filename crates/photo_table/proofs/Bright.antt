@@ -36,9 +36,9 @@ extreme_at_most : (t : Table) → IsTable t → (m a b c d : ℕ) → ((i j : �
 extreme_at_most t h m a b c d values turn round order =
     let first : plane t 0 ≤ a = let e = first_is t h in let f = h.first_plane in omega arith in
     extreme_all greater (λ (u v : Fraction). v ≤ᶠ u) outward_above upper t (angles_between a b) (angles_between c d) (ticks m)
-        (millionths_le a b round) (millionths_le c d order)
-        (λ x y in_c in_g. end_within greater (λ (u v : Fraction). v ≤ᶠ u) outward_above upper t h (ticks m) x y values (zero_le_f (ticks m))
-            (le_trans_f (millionths_le (plane t 0) a first) in_c.0))
+    (millionths_le a b round) (millionths_le c d order)
+    (λ x y in_c in_g. end_within greater (λ (u v : Fraction). v ≤ᶠ u) outward_above upper t h (ticks m) x y values (zero_le_f (ticks m))
+    (le_trans_f (millionths_le (plane t 0) a first) in_c.0))
 
 rounded_at_most : (t : Table) → IsTable t → (m a b c d lo hi : ℕ) → ((i j : ℕ) → upper (value t i j) ≤ᶠ ticks m) → 360000000 ≤ a → a ≤ b → c ≤ d
     → Rounds (plane_extreme lesser lower t (angles_between a b) (angles_between c d)) (plane_extreme greater upper t (angles_between a b) (angles_between c d)) lo hi → hi ≤ m + 1
@@ -57,10 +57,10 @@ pub kept_bright : (ps gs : List Micro) (vs : List Ends) → IsKept ps gs vs → 
     → hi ≤ 687194767360000001
 kept_bright ps gs vs k a b c d lo hi turn round order r =
     rounded_at_most (table_of ps gs vs) k.is_table 687194767360000000 a b c d lo hi
-        (value_at_most (table_of ps gs vs) (ticks 687194767360000000)
-            (λ i p. let q : i < length vs = rw (length-map vs of_span) at p in
-                rw (get_or-map of_span vs i none (exact (whole 0)) q) (ticks_le _ _ (k.intensities i none q).high)))
-        turn round order r
+    (value_at_most (table_of ps gs vs) (ticks 687194767360000000)
+    (λ i p. let q : i < length vs = rw (length-map vs of_span) at p in
+    rw (get_or-map of_span vs i none (exact (whole 0)) q) (ticks_le _ _ (k.intensities i none q).high)))
+    turn round order r
 
 -- ---- brackets in whole numbers
 

@@ -38,7 +38,7 @@ cross_line U V E A B w = omega arith
 
 cross_exact : (U V E a b x : ℕ) → a ≤ x → x ≤ b → a < b
     → ((U * (b * 1000000 - x * 1000000)) * (E * (max 1 (b - a) * 1000000)) + (V * (x * 1000000 - a * 1000000)) * (E * (max 1 (b - a) * 1000000))) * (E * (b - a))
-      ≡ (U * (b - x) + V * (x - a)) * ((E * (max 1 (b - a) * 1000000)) * (E * (max 1 (b - a) * 1000000)))
+    ≡ (U * (b - x) + V * (x - a)) * ((E * (max 1 (b - a) * 1000000)) * (E * (max 1 (b - a) * 1000000)))
 cross_exact U V E a b x g h p =
     let A : b * 1000000 - x * 1000000 ≡ (b - x) * 1000000 = omega arith in
     let B : x * 1000000 - a * 1000000 ≡ (x - a) * 1000000 = omega arith in
@@ -77,7 +77,7 @@ pub corner_value : (end : Interval → Fraction) (t : Table) → IsTable t → (
     → between (millionths y) (gamma t j) (end (value t i j)) (gamma t (suc j)) (end (value t i (suc j))) ≈ᶠ ratio U (68719476736 * (gamma t (suc j) - gamma t j))
     → between (millionths y) (gamma t j) (end (value t (suc i) j)) (gamma t (suc j)) (end (value t (suc i) (suc j))) ≈ᶠ ratio V (68719476736 * (gamma t (suc j) - gamma t j))
     → end_at end t (millionths x) (millionths y)
-      ≈ᶠ ratio (U * (plane t (suc i) - x) + V * (x - plane t i)) (68719476736 * (gamma t (suc j) - gamma t j) * (plane t (suc i) - plane t i))
+    ≈ᶠ ratio (U * (plane t (suc i) - x) + V * (x - plane t i)) (68719476736 * (gamma t (suc j) - gamma t j) * (plane t (suc i) - plane t i))
 unfolding across
 corner_value end t h i j x y U V within left right low high first second =
     let rise = plane_rises t h i (suc i) (omega arith) in
@@ -85,8 +85,8 @@ corner_value end t h i j x y U V within left right low high first second =
     let on_x : IsOn (plane t i) (plane t (suc i)) (millionths x) = record { rise = rise; low = millionths_le _ _ left; high = millionths_le _ _ right } in
     let on_y : IsOn (gamma t j) (gamma t (suc j)) (millionths y) = record { rise = depth; low = millionths_le _ _ low; high = millionths_le _ _ high } in
     eq_trans_f ((end_straight end t h i j within).value (millionths x) (millionths y) on_x on_y)
-        (line_ratio U V (68719476736 * (gamma t (suc j) - gamma t j)) (plane t i) (plane t (suc i)) x _ _ left right rise
-            (mul-pos {m = 68719476736} {n = gamma t (suc j) - gamma t j} (omega arith) (omega arith)) first second)
+    (line_ratio U V (68719476736 * (gamma t (suc j) - gamma t j)) (plane t i) (plane t (suc i)) x _ _ left right rise
+    (mul-pos {m = 68719476736} {n = gamma t (suc j) - gamma t j} (omega arith) (omega arith)) first second)
 
 -- the same, the next plane and the next gamma numbered in another way
 pub corner_next : (end : Interval → Fraction) (t : Table) → IsTable t → (i j i' j' x y U V : ℕ) → i' ≡ suc i → j' ≡ suc j → j' < length t.gammas
@@ -94,7 +94,7 @@ pub corner_next : (end : Interval → Fraction) (t : Table) → IsTable t → (i
     → between (millionths y) (gamma t j) (end (value t i j)) (gamma t j') (end (value t i j')) ≈ᶠ ratio U (68719476736 * (gamma t j' - gamma t j))
     → between (millionths y) (gamma t j) (end (value t i' j)) (gamma t j') (end (value t i' j')) ≈ᶠ ratio V (68719476736 * (gamma t j' - gamma t j))
     → end_at end t (millionths x) (millionths y)
-      ≈ᶠ ratio (U * (plane t i' - x) + V * (x - plane t i)) (68719476736 * (gamma t j' - gamma t j) * (plane t i' - plane t i))
+    ≈ᶠ ratio (U * (plane t i' - x) + V * (x - plane t i)) (68719476736 * (gamma t j' - gamma t j) * (plane t i' - plane t i))
 corner_next end t h i j i' j' x y U V e e' = rw (e, e') (corner_value end t h i j x y U V)
 
 -- ---- rounded

@@ -47,34 +47,34 @@ pub corner_before : (k : ℕ → ℕ) (n : ℕ) (i : Interval) (P : Fraction →
     → IsOn (k a) (k (suc a)) x → HasBefore (k a) (k (suc a)) x P
 corner_before k n i P x a h inside p on = elim (le_or_le_f i.lo (millionths (k a))) [
   | inl l ↦ let r = on.rise in record {
-      y = millionths (k a);
-      on = record { rise = on.rise; low = le_refl_f (millionths (k a)); high = millionths_le (k a) (k (suc a)) (omega arith) };
-      order = on.low;
-      holds = h.knots a (omega arith) l (le_trans_f on.low inside.1);
-    }
+    y = millionths (k a);
+    on = record { rise = on.rise; low = le_refl_f (millionths (k a)); high = millionths_le (k a) (k (suc a)) (omega arith) };
+    order = on.low;
+    holds = h.knots a (omega arith) l (le_trans_f on.low inside.1);
+  }
   | inr g ↦ record {
-      y = i.lo;
-      on = record { rise = on.rise; low = g; high = le_trans_f inside.0 on.high };
-      order = inside.0;
-      holds = h.low;
-    }
+    y = i.lo;
+    on = record { rise = on.rise; low = g; high = le_trans_f inside.0 on.high };
+    order = inside.0;
+    holds = h.low;
+  }
 ]
 
 pub corner_after : (k : ℕ → ℕ) (n : ℕ) (i : Interval) (P : Fraction → Type 0) (x : Fraction) (a : ℕ) → AtCorners k n i P → Contains i x → suc a < n
     → IsOn (k a) (k (suc a)) x → HasAfter (k a) (k (suc a)) x P
 corner_after k n i P x a h inside p on = elim (le_or_le_f (millionths (k (suc a))) i.hi) [
   | inl l ↦ let r = on.rise in record {
-      y = millionths (k (suc a));
-      on = record { rise = on.rise; low = millionths_le (k a) (k (suc a)) (omega arith); high = le_refl_f (millionths (k (suc a))) };
-      order = on.high;
-      holds = h.knots (suc a) p (le_trans_f inside.0 on.high) l;
-    }
+    y = millionths (k (suc a));
+    on = record { rise = on.rise; low = millionths_le (k a) (k (suc a)) (omega arith); high = le_refl_f (millionths (k (suc a))) };
+    order = on.high;
+    holds = h.knots (suc a) p (le_trans_f inside.0 on.high) l;
+  }
   | inr g ↦ record {
-      y = i.hi;
-      on = record { rise = on.rise; low = le_trans_f on.low inside.1; high = g };
-      order = inside.1;
-      holds = h.high;
-    }
+    y = i.hi;
+    on = record { rise = on.rise; low = le_trans_f on.low inside.1; high = g };
+    order = inside.1;
+    holds = h.high;
+  }
 ]
 
 -- ---- the extreme value
@@ -140,5 +140,5 @@ unfolding extreme
 extreme_within pick R o k zero i f m h = o.both (f i.lo) (f i.hi) h.low h.high
 extreme_within pick R o k (suc n) i f m h =
     choice_within pick R o (is_in i (millionths (k n))) (extreme pick k n i f) (f (millionths (k n))) m
-        (extreme_within pick R o k n i f m (record { low = h.low; high = h.high; knots = λ a p low high. h.knots a (omega arith) low high }))
-        (λ e. let c = in_contains i (millionths (k n)) e in h.knots n (omega arith) c.0 c.1)
+    (extreme_within pick R o k n i f m (record { low = h.low; high = h.high; knots = λ a p low high. h.knots a (omega arith) low high }))
+    (λ e. let c = in_contains i (millionths (k n)) e in h.knots n (omega arith) c.0 c.1)

@@ -116,7 +116,7 @@ ends_cross p t is_p is_t near m n c g d h order_c order_g order_d order_h meet_c
     (le_trans_f (end_near p t lower upper (whole 0) is_p is_t near z y low_z)
     (le_trans_f (add_zero_f (end_at upper t z y))
     (le_trans_f (le_of_eq_f (end_moved upper t is_t n b.x z y low_t b.same))
-        (extreme_contains greater (λ i j. j ≤ᶠ i) outward_above upper t is_t d' h b.x y (first_below t is_t d.lo) b.inside in_h)))))
+    (extreme_contains greater (λ i j. j ≤ᶠ i) outward_above upper t is_t d' h b.x y (first_below t is_t d.lo) b.inside in_h)))))
 
 pub hulls_meet : HullsMeet
 hulls_meet p t is_p is_t s m n c g d h order_c order_g order_d order_h meet_c meet_g = record {
@@ -136,9 +136,9 @@ unfolding hull
 low_near p t is_p is_t e near c g order_c order_g =
     let m = plane_extreme lesser lower t (later c) g in
     sub_back_f m e (extreme_all lesser (λ a b. a ≤ᶠ b) outward_below lower p (later c) g (m -ᶠ e) (turn_later_le order_c) order_g
-        (λ x y in_c in_g. sub_le_f m e
-            (le_trans_f (extreme_contains lesser (λ a b. a ≤ᶠ b) outward_below lower t is_t (later c) g x y (first_below t is_t c.lo) in_c in_g)
-                (end_near t p lower lower e is_t is_p near x y (le_trans_f (first_below t is_t c.lo) in_c.0)))))
+    (λ x y in_c in_g. sub_le_f m e
+    (le_trans_f (extreme_contains lesser (λ a b. a ≤ᶠ b) outward_below lower t is_t (later c) g x y (first_below t is_t c.lo) in_c in_g)
+    (end_near t p lower lower e is_t is_p near x y (le_trans_f (first_below t is_t c.lo) in_c.0)))))
 
 high_near : (p t : Table) → IsTable p → IsTable t → (e : Fraction) → IsNear p t upper upper e → (c g : Interval) → InOrder c → InOrder g
     → (hull p c g).hi ≤ᶠ ((hull t c g).hi +ᶠ e)
@@ -146,8 +146,8 @@ unfolding hull
 high_near p t is_p is_t e near c g order_c order_g =
     let m = plane_extreme greater upper t (later c) g in
     extreme_all greater (λ a b. b ≤ᶠ a) outward_above upper p (later c) g (m +ᶠ e) (turn_later_le order_c) order_g
-        (λ x y in_c in_g. le_trans_f (end_near p t upper upper e is_p is_t near x y (le_trans_f (first_below p is_p c.lo) in_c.0))
-            (add_le_f (extreme_contains greater (λ a b. b ≤ᶠ a) outward_above upper t is_t (later c) g x y (first_below t is_t c.lo) in_c in_g) (le_refl_f e)))
+    (λ x y in_c in_g. le_trans_f (end_near p t upper upper e is_p is_t near x y (le_trans_f (first_below p is_p c.lo) in_c.0))
+    (add_le_f (extreme_contains greater (λ a b. b ≤ᶠ a) outward_above upper t is_t (later c) g x y (first_below t is_t c.lo) in_c in_g) (le_refl_f e)))
 
 -- one turn more
 turn_more : (x : Fraction) (m : ℕ) → (x +ᶠ whole (360 * suc m)) ≈ᶠ ((x +ᶠ whole (360 * m)) +ᶠ whole 360)
@@ -167,11 +167,11 @@ near_circle w m n c d small narrow meet = record {
       (le_trans_f (add_swap_f d.lo (whole 360) (whole (360 * n)))
       (le_trans_f (add_le_f (le_trans_f meet.below (le_trans_f (add_le_f narrow (le_refl_f (whole (360 * m)))) (add_swap_f c.lo w (whole (360 * m))))) (le_refl_f (whole 360)))
       (le_trans_f (add_swap_f (c.lo +ᶠ whole (360 * m)) w (whole 360))
-          (add_le_f (ge_of_eq_f (turn_more c.lo m)) (le_refl_f w)))))));
+      (add_le_f (ge_of_eq_f (turn_more c.lo m)) (le_refl_f w)))))));
   upper =
       le_trans_f (le_of_eq_f (turn_more c.hi m))
       (le_trans_f (add_le_f (le_trans_f (add_le_f narrow (le_refl_f (whole (360 * m)))) (le_trans_f (add_swap_f c.lo w (whole (360 * m))) (add_le_f meet.above (le_refl_f w)))) (le_refl_f (whole 360)))
-          (regrouped d.hi (whole (360 * n)) w (whole 360)));
+      (regrouped d.hi (whole (360 * n)) w (whole 360)));
 }
 
 pub hulls_near : HullsNear

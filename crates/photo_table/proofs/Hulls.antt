@@ -29,7 +29,7 @@ at_planes : (pick : Fraction → Fraction → Fraction) (R : Fraction → Fracti
 unfolding plane_extreme
 at_planes pick R o end t c g =
     map_corners (plane t) (planes_to t c.hi) c _ _ (λ x r. at_gammas pick R o end t g _ x r)
-        (extreme_outward pick R o (plane t) (planes_to t c.hi) c (gamma_extreme pick end t g))
+    (extreme_outward pick R o (plane t) (planes_to t c.hi) c (gamma_extreme pick end t g))
 
 -- it is outside of the value at every point
 pub extreme_contains : (pick : Fraction → Fraction → Fraction) (R : Fraction → Fraction → Type 0) → IsOutward pick R → (end : Interval → Fraction) (t : Table) → IsTable t
@@ -43,7 +43,7 @@ extreme_contains pick R o end t h c g x y low in_c in_g =
       | inside p ↦
           let q = plane_piece t h x (le_trans_f low in_c.0) in
           box pick R o (plane t) (gamma t) (ends_of end t) (end_at end t) q.i p.i (end_straight end t h q.i p.i p.within)
-              (planes_to t c.hi) (length t.gammas) c g m x y corners (within_planes t h q.i c.hi (le_trans_f q.on.low in_c.1)) p.within in_c in_g q.on p.on
+          (planes_to t c.hi) (length t.gammas) c g m x y corners (within_planes t h q.i c.hi (le_trans_f q.on.low in_c.1)) p.within in_c in_g q.on p.on
     ]
 
 -- and nothing that is outside of all of them is further in
@@ -53,9 +53,9 @@ pub extreme_all : (pick : Fraction → Fraction → Fraction) (R : Fraction → 
 unfolding plane_extreme gamma_extreme
 extreme_all pick R o end t c g m order_c order_g h =
     extreme_within pick R o (plane t) (planes_to t c.hi) c (gamma_extreme pick end t g) m
-        (corners_of_all (plane t) (planes_to t c.hi) c _ order_c
-            (λ x in_c. extreme_within pick R o (gamma t) (length t.gammas) g (end_at end t x) m
-                (corners_of_all (gamma t) (length t.gammas) g _ order_g (λ y in_g. h x y in_c in_g))))
+    (corners_of_all (plane t) (planes_to t c.hi) c _ order_c
+    (λ x in_c. extreme_within pick R o (gamma t) (length t.gammas) g (end_at end t x) m
+    (corners_of_all (gamma t) (length t.gammas) g _ order_g (λ y in_g. h x y in_c in_g))))
 
 -- a wider bracket has the outer extreme, up to turns of either
 pub extreme_grows : (pick : Fraction → Fraction → Fraction) (R : Fraction → Fraction → Type 0) → IsOutward pick R → (end : Interval → Fraction) (t : Table) → IsTable t
@@ -63,14 +63,14 @@ pub extreme_grows : (pick : Fraction → Fraction → Fraction) (R : Fraction �
     → LiesIn (turned m c) (turned n d) → LiesIn g h → R (plane_extreme pick end t d h) (plane_extreme pick end t c g)
 extreme_grows pick R o end t is m n c g d h low_c low_d order_c order_g in_d in_h =
     extreme_all pick R o end t c g (plane_extreme pick end t d h) order_c order_g (λ x y in_c in_g.
-        let z = x +ᶠ whole (360 * m) in
-        let w = z -ᶠ whole (360 * n) in
-        let enough : (d.lo +ᶠ whole (360 * n)) ≤ᶠ z = le_trans_f in_d.lower (add_le_f in_c.0 (le_refl_f (whole (360 * m)))) in
-        let whole_turns : whole (360 * n) ≤ᶠ z = le_trans_f (le_add_left_f d.lo (whole (360 * n))) enough in
-        let low_w : d.lo ≤ᶠ w = le_sub_f z (whole (360 * n)) enough in
-        let high_w : w ≤ᶠ d.hi = sub_le_f z (whole (360 * n)) (le_trans_f (add_le_f in_c.1 (le_refl_f (whole (360 * m)))) in_d.upper) in
-        let same : z ≈ᶠ (w +ᶠ whole (360 * n)) = eq_of_le_f (le_sub_add_f z (whole (360 * n))) (sub_add_f z (whole (360 * n)) whole_turns) in
-        let at_w = end_moved end t is n w z y (le_trans_f low_d low_w) same in
-        let at_x = end_moved end t is m x z y (le_trans_f low_c in_c.0) (eq_refl_f z) in
-        o.trans (extreme_contains pick R o end t is d h w y low_d (low_w, high_w) (le_trans_f in_h.lower in_g.0, le_trans_f in_g.1 in_h.upper))
-            (o.same (eq_trans_f (eq_sym_f at_w) at_x)))
+    let z = x +ᶠ whole (360 * m) in
+    let w = z -ᶠ whole (360 * n) in
+    let enough : (d.lo +ᶠ whole (360 * n)) ≤ᶠ z = le_trans_f in_d.lower (add_le_f in_c.0 (le_refl_f (whole (360 * m)))) in
+    let whole_turns : whole (360 * n) ≤ᶠ z = le_trans_f (le_add_left_f d.lo (whole (360 * n))) enough in
+    let low_w : d.lo ≤ᶠ w = le_sub_f z (whole (360 * n)) enough in
+    let high_w : w ≤ᶠ d.hi = sub_le_f z (whole (360 * n)) (le_trans_f (add_le_f in_c.1 (le_refl_f (whole (360 * m)))) in_d.upper) in
+    let same : z ≈ᶠ (w +ᶠ whole (360 * n)) = eq_of_le_f (le_sub_add_f z (whole (360 * n))) (sub_add_f z (whole (360 * n)) whole_turns) in
+    let at_w = end_moved end t is n w z y (le_trans_f low_d low_w) same in
+    let at_x = end_moved end t is m x z y (le_trans_f low_c in_c.0) (eq_refl_f z) in
+    o.trans (extreme_contains pick R o end t is d h w y low_d (low_w, high_w) (le_trans_f in_h.lower in_g.0, le_trans_f in_g.1 in_h.upper))
+    (o.same (eq_trans_f (eq_sym_f at_w) at_x)))

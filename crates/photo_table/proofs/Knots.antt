@@ -41,7 +41,7 @@ same_on_pieces k n v x i j r p h on low = elim (cases_lt i j) [
         let P : ℕ → Type 0 = λ z. between x (k z) (v z) (k (suc z)) (v (suc z)) ≈ᶠ between x (k i) (v i) (k (suc i)) (v (suc i)) in
         let f : suc i ≡ j = omega arith in
         subst P f (eq_trans_f (at_left (k (suc i)) (k (suc (suc i))) x (v (suc i)) (v (suc (suc i))) on' on.high)
-            (eq_sym_f (at_right (k i) (k (suc i)) x (v i) (v (suc i)) on at)))
+        (eq_sym_f (at_right (k i) (k (suc i)) x (v i) (v (suc i)) on at)))
   ]
 ]
 
@@ -53,8 +53,8 @@ along_is k n v x i r p on =
     let first : test 0 ≡ true = at_most_true (le_trans_f (millionths_le (k 0) (k i) (rising_le k n 0 i r (omega arith) (omega arith))) on.low) in
     let within = greatest_within test (n - 2) in
     same_on_pieces k n v x i (greatest test (n - 2)) r (omega arith)
-        (greatest_most test (n - 2) i (omega arith) (at_most_true on.low)) on
-        (at_most_le (millionths (k (greatest test (n - 2)))) x (greatest_passes test (n - 2) first))
+    (greatest_most test (n - 2) i (omega arith) (at_most_true on.low)) on
+    (at_most_le (millionths (k (greatest test (n - 2)))) x (greatest_passes test (n - 2) first))
 
 -- the piece on which x lies
 pub record HasPiece (k : ℕ → ℕ) (n : ℕ) (x : Fraction) : Type 0 where

@@ -42,10 +42,10 @@ box_line pick R o k g v f i j s n d m x y corners p inside on_x on_y =
     let after = corner_after g n d P y j corners inside p on_y in
     let seen = λ (z : Fraction) (on : IsOn (g j) (g (suc j)) z) (h : R m (f x z)). o.trans h (o.same (down_value k g v f i j s x z on_x on)) in
     o.trans
-        (o.line (g j) (g (suc j)) (between x (k i) (v i j) (k (suc i)) (v (suc i) j)) (between x (k i) (v i (suc j)) (k (suc i)) (v (suc i) (suc j)))
-            m before.y y after.y before.on on_y after.on before.order after.order
-            (seen before.y before.on before.holds) (seen after.y after.on after.holds))
-        (o.same (eq_sym_f (down_value k g v f i j s x y on_x on_y)))
+    (o.line (g j) (g (suc j)) (between x (k i) (v i j) (k (suc i)) (v (suc i) j)) (between x (k i) (v i (suc j)) (k (suc i)) (v (suc i) (suc j)))
+    m before.y y after.y before.on on_y after.on before.order after.order
+    (seen before.y before.on before.holds) (seen after.y after.on after.holds))
+    (o.same (eq_sym_f (down_value k g v f i j s x y on_x on_y)))
 
 -- a bound at the corners of both
 pub box : (pick : Fraction → Fraction → Fraction) (R : Fraction → Fraction → Type 0) → IsOutward pick R
@@ -58,9 +58,9 @@ box pick R o k g v f i j s l n c d m x y corners p q in_c in_d on_x on_y =
     let before = corner_before k l c P x i corners in_c p on_x in
     let after = corner_after k l c P x i corners in_c p on_x in
     let seen = λ (w : Fraction) (on : IsOn (k i) (k (suc i)) w) (h : AtCorners g n d (λ z. R m (f w z))).
-        o.trans (box_line pick R o k g v f i j s n d m w y h q in_d on on_y) (o.same (s.value w y on on_y)) in
+    o.trans (box_line pick R o k g v f i j s n d m w y h q in_d on on_y) (o.same (s.value w y on on_y)) in
     o.trans
-        (o.line (k i) (k (suc i)) (between y (g j) (v i j) (g (suc j)) (v i (suc j))) (between y (g j) (v (suc i) j) (g (suc j)) (v (suc i) (suc j)))
-            m before.y x after.y before.on on_x after.on before.order after.order
-            (seen before.y before.on before.holds) (seen after.y after.on after.holds))
-        (o.same (eq_sym_f (s.value x y on_x on_y)))
+    (o.line (k i) (k (suc i)) (between y (g j) (v i j) (g (suc j)) (v i (suc j))) (between y (g j) (v (suc i) j) (g (suc j)) (v (suc i) (suc j)))
+    m before.y x after.y before.on on_x after.on before.order after.order
+    (seen before.y before.on before.holds) (seen after.y after.on after.holds))
+    (o.same (eq_sym_f (s.value x y on_x on_y)))

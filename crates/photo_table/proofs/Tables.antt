@@ -147,9 +147,9 @@ end_straight end t h i j p = record {
       let high = le_trans_f on_y.high (millionths_le (gamma t (suc j)) (last_gamma t) (rising_le (gamma t) n (suc j) (n - 1) r (omega arith) (omega arith))) in
       let P : Fraction → Type 0 = λ z. z ≈ᶠ across (plane t) (gamma t) (ends_of end t) i j x y in
       subst P (sym (end_inside end t x y low high))
-          (eq_trans_f
-              (along_is (plane t) (planes_to t x) (λ a. along (gamma t) n (ends_of end t a) y) x i (planes_rising t h (planes_to t x)) (within_planes t h i x on_x.low) on_x)
-              (between_eq (plane t i) (plane t (suc i)) x _ _ _ _ (row i) (row (suc i))));
+      (eq_trans_f
+      (along_is (plane t) (planes_to t x) (λ a. along (gamma t) n (ends_of end t a) y) x i (planes_rising t h (planes_to t x)) (within_planes t h i x on_x.low) on_x)
+      (between_eq (plane t i) (plane t (suc i)) x _ _ _ _ (row i) (row (suc i))));
 }
 
 -- ---- where an angle stands
@@ -193,7 +193,7 @@ across_moved end t h turns i j x z y e =
     let s : suc (i + n * turns) ≡ suc i + n * turns = omega arith in
     let v = λ (c d : ℕ). value_later t c turns d in
     rw (s, a, b, v i j, v i (suc j), v (suc i) j, v (suc i) (suc j))
-        (between_moved (plane t i) (plane t (suc i)) turns x z _ _ e)
+    (between_moved (plane t i) (plane t (suc i)) turns x z _ _ e)
 
 moved_on : (t : Table) → IsTable t → (turns i : ℕ) (x z : Fraction) → z ≈ᶠ (x +ᶠ whole (360 * turns)) → IsOn (plane t i) (plane t (suc i)) x
     → IsOn (plane t (i + length t.planes * turns)) (plane t (suc (i + length t.planes * turns))) z
@@ -209,6 +209,7 @@ moved_on t h turns i x z e on =
   where
     shifted_low : (a move xn xd zn zd : ℕ) → 0 < xd → (zn * 1000000) * xd ≡ (xn * 1000000 + move * xd) * zd → a * xd ≤ xn * 1000000 → (a + move) * zd ≤ zn * 1000000
     shifted_low a move xn xd zn zd p e g = le_of_mul-le-mul_left {k = xd} (omega (arith, e, mul-le-mul_left zd g)) p
+
     shifted_high : (a move xn xd zn zd : ℕ) → 0 < xd → (zn * 1000000) * xd ≡ (xn * 1000000 + move * xd) * zd → xn * 1000000 ≤ a * xd → zn * 1000000 ≤ (a + move) * zd
     shifted_high a move xn xd zn zd p e g = le_of_mul-le-mul_left {k = xd} (omega (arith, e, mul-le-mul_left zd g)) p
 
@@ -222,7 +223,7 @@ end_moved end t h turns x z y low e = elim (stands t h y) [
       let i = p.i in
       eq_trans_f ((end_straight end t h (i + length t.planes * turns) g.i g.within).value z y (moved_on t h turns i x z e p.on) g.on)
       (eq_trans_f (across_moved end t h turns i g.i x z y e)
-          (eq_sym_f ((end_straight end t h i g.i g.within).value x y p.on g.on)))
+      (eq_sym_f ((end_straight end t h i g.i g.within).value x y p.on g.on)))
 ]
 
 -- ---- bounds on the values
@@ -234,8 +235,8 @@ between_within pick R o a b m x u v on g k =
     let first : IsOn a b (millionths a) = record { rise = on.rise; low = le_refl_f (millionths a); high = millionths_le a b (omega arith) } in
     let second : IsOn a b (millionths b) = record { rise = on.rise; low = millionths_le a b (omega arith); high = le_refl_f (millionths b) } in
     o.line a b u v m (millionths a) x (millionths b) first on second on.low on.high
-        (o.trans g (o.same (eq_sym_f (at_left a b (millionths a) u v first (le_refl_f (millionths a))))))
-        (o.trans k (o.same (eq_sym_f (at_right a b (millionths b) u v second (le_refl_f (millionths b))))))
+    (o.trans g (o.same (eq_sym_f (at_left a b (millionths a) u v first (le_refl_f (millionths a))))))
+    (o.trans k (o.same (eq_sym_f (at_right a b (millionths b) u v second (le_refl_f (millionths b))))))
 
 -- a bound on every value of the table and on 0 is one everywhere
 pub end_within : (pick : Fraction → Fraction → Fraction) (R : Fraction → Fraction → Type 0) → IsOutward pick R → (end : Interval → Fraction) (t : Table) → IsTable t
@@ -248,7 +249,7 @@ end_within pick R o end t h m x y values none low = elim (stands t h y) [
       let p = plane_piece t h x low in
       let row = λ (a : ℕ). between_within pick R o (gamma t g.i) (gamma t (suc g.i)) m y (ends_of end t a g.i) (ends_of end t a (suc g.i)) g.on (values a g.i) (values a (suc g.i)) in
       o.trans (between_within pick R o (plane t p.i) (plane t (suc p.i)) m x _ _ p.on (row p.i) (row (suc p.i)))
-          (o.same (eq_sym_f ((end_straight end t h p.i g.i g.within).value x y p.on g.on)))
+      (o.same (eq_sym_f ((end_straight end t h p.i g.i g.within).value x y p.on g.on)))
 ]
 
 -- ---- close tables
@@ -288,7 +289,7 @@ end_near s t end other e hs ht near x y low = elim (stands s hs y) [
       let seen' = rw (a, b, c, d) at seen in
       le_trans_f (le_of_eq_f seen')
       (le_trans_f (between_near (plane t i) (plane t (suc i)) x _ _ _ _ e on_x (row i) (row (suc i)))
-          (add_le_f (ge_of_eq_f ((end_straight other t ht i j within).value x y on_x on_y)) (le_refl_f e)))
+      (add_le_f (ge_of_eq_f ((end_straight other t ht i j within).value x y on_x on_y)) (le_refl_f e)))
 ]
 
 -- ---- steps of planes

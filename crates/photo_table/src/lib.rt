@@ -12,3 +12,6 @@ mod table;
 
 pub use summary::summary_text;
 pub use table::PhotoTable;
+
+#[cfg(test)]
+mod tests;

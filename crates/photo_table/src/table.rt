@@ -87,7 +87,7 @@ impl PhotoTable {
     }
 
     /// The greatest lower end.
-    pub fn greatest_lower(&self) -> Tick
+    pub(crate) fn greatest_lower(&self) -> Tick
         ensures greatest { IsGreatest lower self.now (ticks (natural result.0)) }
         ensures not_negative { pos 0 ≤ℤ result.0 }
         ensures bright { natural result.0 ≤ 687194767360000000 }

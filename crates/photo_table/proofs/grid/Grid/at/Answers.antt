@@ -21,7 +21,7 @@ returns-then-y-gamma_at c =
             dark_rounds _ _ (end_below lower t x y h) (end_below upper t x y h)
         | then-y-gamma_at-via-else-y-gamma_at+then-gamma_at-y w ↦
             let count : c.len-last.result ≡ length t.gammas =
-                let e = count_is c.args.self.now.gammas.items in omega (arith, c.len-last.ensures, c.args.self.now.gammas.ok.0) in
+            let e = count_is c.args.self.now.gammas.items in omega (arith, c.len-last.ensures, c.args.self.now.gammas.ok.0) in
             let h = millionths_lt _ c.args.y (rw (w.gamma_at-else-y-gamma_at.ensures.at, count) at w.if-gamma_at-y.true) in
             dark_rounds _ _ (end_above lower t x y h) (end_above upper t x y h)
       ];

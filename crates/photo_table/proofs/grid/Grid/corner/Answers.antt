@@ -46,11 +46,11 @@ returns c =
           (omega (arith, deep)) (omega (arith, wide))
           (rw (c.weighed-low.ensures, c.weighed-high.ensures) (weighed_le _ _ _ _ _ _ c.weighed_row-first.ensures.in_order c.weighed_row-second.ensures.in_order))
           (rw (c.weighed-low.ensures, c.plane_at-left.ensures, c.plane_at-right.ensures)
-              (corner_next lower t s.kept.is_table c.args.i c.args.j (c.args.i + 1) (c.args.j + 1) c.args.x c.args.y c.weighed_row-first.result.lo c.weighed_row-second.result.lo (omega arith) (omega arith) within
-                  c.requires.left c.requires.right c.requires.low c.requires.high c.weighed_row-first.ensures.low c.weighed_row-second.ensures.low))
+          (corner_next lower t s.kept.is_table c.args.i c.args.j (c.args.i + 1) (c.args.j + 1) c.args.x c.args.y c.weighed_row-first.result.lo c.weighed_row-second.result.lo (omega arith) (omega arith) within
+          c.requires.left c.requires.right c.requires.low c.requires.high c.weighed_row-first.ensures.low c.weighed_row-second.ensures.low))
           (rw (c.weighed-high.ensures, c.plane_at-left.ensures, c.plane_at-right.ensures)
-              (corner_next upper t s.kept.is_table c.args.i c.args.j (c.args.i + 1) (c.args.j + 1) c.args.x c.args.y c.weighed_row-first.result.hi c.weighed_row-second.result.hi (omega arith) (omega arith) within
-                  c.requires.left c.requires.right c.requires.low c.requires.high c.weighed_row-first.ensures.high c.weighed_row-second.ensures.high))
+          (corner_next upper t s.kept.is_table c.args.i c.args.j (c.args.i + 1) (c.args.j + 1) c.args.x c.args.y c.weighed_row-first.result.hi c.weighed_row-second.result.hi (omega arith) (omega arith) within
+          c.requires.left c.requires.right c.requires.low c.requires.high c.weighed_row-first.ensures.high c.weighed_row-second.ensures.high))
           (rw (← c.plane_at-left.ensures, ← c.plane_at-right.ensures, ← c.gamma_at.ensures.at, ← c.gamma_at-2.ensures.at) c.rounded.ensures.low)
           (rw (← c.plane_at-left.ensures, ← c.plane_at-right.ensures, ← c.gamma_at.ensures.at, ← c.gamma_at-2.ensures.at) c.rounded.ensures.high);
     }

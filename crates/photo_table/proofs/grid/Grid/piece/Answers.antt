@@ -11,7 +11,7 @@ returns-clause-low c =
     let count : c.len.result ≡ length ps = omega (arith, c.len.ensures, s.planes.ok.0) in
     let few = rw c.deref.ensures.value at c.count_up_to.ensures.few in
     piece_low (table_in s) s.kept.is_table c.args.x c.len.result c.count_up_to.result (count ∙ sym (count_is ps)) c.requires.turn (omega arith)
-        (λ i p. s.kept.planes_below i (omega arith)) (rw c.deref.ensures.value at c.count_up_to.ensures.up_to)
+    (λ i p. s.kept.planes_below i (omega arith)) (rw c.deref.ensures.value at c.count_up_to.ensures.up_to)
 
 pub returns-clause-high : goal.returns-clause-high
 returns-clause-high c =
@@ -21,4 +21,4 @@ returns-clause-high c =
     let few = rw c.deref.ensures.value at c.count_up_to.ensures.few in
     let above = rw c.deref.ensures.value at c.count_up_to.ensures.above in
     piece_high (table_in s) s.kept.is_table c.args.x c.len.result c.count_up_to.result (count ∙ sym (count_is ps)) c.requires.turn (omega arith)
-        (λ i p q. above i p (omega arith))
+    (λ i p q. above i p (omega arith))

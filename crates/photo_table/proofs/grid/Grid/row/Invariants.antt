@@ -8,4 +8,4 @@ use Rattle.photo_table.proofs.grid.Grid.row.Given as goal
 abbrev pub invariant-loop-j : goal.invariant-loop-j
 invariant-loop-j l =
     Swept (gamma (table_in l.self)) (length (table_in l.self).gammas) l.low l.high
-        (end_at lower (table_in l.self) (millionths l.x)) (end_at upper (table_in l.self) (millionths l.x)) l.j l.part.lo l.part.hi
+    (end_at lower (table_in l.self) (millionths l.x)) (end_at upper (table_in l.self) (millionths l.x)) l.j l.part.lo l.part.hi

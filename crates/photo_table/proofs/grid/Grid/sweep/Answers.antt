@@ -24,9 +24,9 @@ loop-i-init c =
     let t = table_in c.args.self.now in
     let g = angles_between c.args.low c.args.high in
     swept_start (plane t) (planes_to t (millionths c.args.right)) c.args.left c.args.right (gamma_extreme lesser lower t g) (gamma_extreme greater upper t g)
-        (c.piece-first.result + 1) _ _ _ _ c.joined-part.result.lo c.joined-part.result.hi
-        c.row.ensures.rounds c.row-2.ensures.rounds c.joined-part.ensures.low c.joined-part.ensures.high
-        (λ i p. let a = plane_le t c.args.self.now.kept.is_table i c.piece-first.result (omega arith) in omega (arith, a, c.piece-first.ensures.low))
+    (c.piece-first.result + 1) _ _ _ _ c.joined-part.result.lo c.joined-part.result.hi
+    c.row.ensures.rounds c.row-2.ensures.rounds c.joined-part.ensures.low c.joined-part.ensures.high
+    (λ i p. let a = plane_le t c.args.self.now.kept.is_table i c.piece-first.result (omega arith) in omega (arith, a, c.piece-first.ensures.low))
 
 pub row-requires-in-loop-i-clause-right : goal.row-requires-in-loop-i-clause-right
 row-requires-in-loop-i-clause-right c =
@@ -43,9 +43,9 @@ loop-i-preserved c =
     let to : plane t i ≤ c.args.right = let a = plane_le t is i c.piece-last.result (omega (arith, c.loop-i-test.true)) in omega (arith, a, c.piece-last.ensures.low) in
     let within = within_planes t is i (millionths c.args.right) (millionths_le (plane t i) c.args.right to) in
     swept_more (plane t) (planes_to t (millionths c.args.right)) c.args.left c.args.right (gamma_extreme lesser lower t g) (gamma_extreme greater upper t g)
-        i c.loop-i.part.lo c.loop-i.part.hi c.row-in-loop-i.result.lo c.row-in-loop-i.result.hi c.joined-part-in-loop-i.result.lo c.joined-part-in-loop-i.result.hi
-        c.loop-i.invariant (omega arith) from to (rw c.plane_at.ensures at c.row-in-loop-i.ensures.rounds)
-        c.joined-part-in-loop-i.ensures.low c.joined-part-in-loop-i.ensures.high
+    i c.loop-i.part.lo c.loop-i.part.hi c.row-in-loop-i.result.lo c.row-in-loop-i.result.hi c.joined-part-in-loop-i.result.lo c.joined-part-in-loop-i.result.hi
+    c.loop-i.invariant (omega arith) from to (rw c.plane_at.ensures at c.row-in-loop-i.ensures.rounds)
+    c.joined-part-in-loop-i.ensures.low c.joined-part-in-loop-i.ensures.high
 
 pub returns : goal.returns
 unfolding plane_extreme

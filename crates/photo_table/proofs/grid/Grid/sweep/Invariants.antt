@@ -10,5 +10,5 @@ use Rattle.photo_table.proofs.grid.Grid.sweep.Given as goal
 abbrev pub invariant-loop-i : goal.invariant-loop-i
 invariant-loop-i l =
     Swept (plane (table_in l.self)) (planes_to (table_in l.self) (millionths l.right)) l.left l.right
-        (gamma_extreme lesser lower (table_in l.self) (angles_between l.low l.high))
-        (gamma_extreme greater upper (table_in l.self) (angles_between l.low l.high)) l.i l.part.lo l.part.hi
+    (gamma_extreme lesser lower (table_in l.self) (angles_between l.low l.high))
+    (gamma_extreme greater upper (table_in l.self) (angles_between l.low l.high)) l.i l.part.lo l.part.hi
