@@ -1,6 +1,6 @@
 -- Values on the straight line between two neighbouring knots.
 use Rattle.std.proofs.Common.{ℕ, ◌+◌, ◌-◌, ◌*◌, ◌<◌, ◌≤◌, ◌≡◌, max, arith, ap}
-use Rattle.std.proofs.Math.Nat.{mul-pos, le-max_left, mul-le-mul_left, mul-sub}
+use Rattle.std.proofs.Math.Nat.{mul-pos, le-max_left, mul-sub}
 use Rattle.fx_base.specs.Fraction.{Fraction, ◌≤ᶠ◌, ◌≈ᶠ◌, whole, ◌+ᶠ◌, ◌*ᶠ◌}
 use Rattle.fx_base.specs.Units.{millionths}
 use Rattle.fx_base.proofs.Order.{le_refl_f, le_trans_f, le_of_eq_f, ge_of_eq_f, eq_of_le_f, add_le_f, mul_le_f, mul_add_right_f, add_pairs_f, add_mul_f, mul_one_f}

@@ -1,5 +1,5 @@
 -- How high a hull reaches, and what a span that rounds it holds.
-use Rattle.std.proofs.Common.{ℕ, ◌+◌, ◌-◌, ◌*◌, ◌%◌, ◌<◌, ◌≤◌, ◌≡◌, List, length, map, slice_index_or, inl, inr, arith, refl, ℤ, pos}
+use Rattle.std.proofs.Common.{ℕ, ◌+◌, ◌-◌, ◌*◌, ◌%◌, ◌<◌, ◌≤◌, ◌≡◌, List, length, slice_index_or, inl, inr, arith, refl, pos}
 use Rattle.std.proofs.lemmas.Bool.{cases_lt}
 use Rattle.std.proofs.lemmas.List.{get_or-map}
 use Rattle.std.proofs.Math.ListN.{length-map, get_or-eq_default}
@@ -16,7 +16,7 @@ use Rattle.photo_table.specs.Hull.{plane_extreme, hull}
 use Rattle.photo_table.specs.Kept.{IsKept, IsGreatest, Rounds, table_of, angles_between}
 use Rattle.photo_table.proofs.Between.{millionths_le}
 use Rattle.photo_table.proofs.Outward.{outward_above}
-use Rattle.photo_table.proofs.Tables.{end_within, plane_le}
+use Rattle.photo_table.proofs.Tables.{end_within}
 use Rattle.photo_table.proofs.Hulls.{extreme_all}
 use Rattle.photo_table.proofs.HullLaws.{first_is}
 

@@ -1,5 +1,5 @@
 -- The value in a box between two planes and two gammas, from whole numbers.
-use Rattle.std.proofs.Common.{ℕ, suc, ◌+◌, ◌-◌, ◌*◌, ◌/◌, ◌%◌, ◌^◌, ◌<◌, ◌≤◌, ◌≡◌, max, min, arith, ap, inl, inr, refl, sym, length}
+use Rattle.std.proofs.Common.{ℕ, suc, ◌+◌, ◌-◌, ◌*◌, ◌/◌, ◌^◌, ◌<◌, ◌≤◌, ◌≡◌, max, arith, ap, inl, inr, refl, length}
 use Rattle.std.proofs.Math.Nat.{mul-le-mul, mul-le-mul_left, mul-pos, div-mul-le_self, lt-div-mul-add}
 use Rattle.std.proofs.lemmas.Bool.{cases_lt}
 use Rattle.std.proofs.lemmas.Grind.{div_ceil_times}
@@ -7,7 +7,7 @@ use Rattle.std.specs.Int.{div_ceil}
 use Rattle.fx_base.specs.Fraction.{Fraction, ◌≤ᶠ◌, ◌≈ᶠ◌, ratio, whole, ◌+ᶠ◌, ◌*ᶠ◌}
 use Rattle.fx_base.specs.Interval.{Interval}
 use Rattle.fx_base.specs.Units.{ticks, millionths}
-use Rattle.fx_base.proofs.Order.{le_refl_f, le_trans_f, le_of_eq_f, ge_of_eq_f, eq_refl_f, eq_trans_f, zero_le_f}
+use Rattle.fx_base.proofs.Order.{le_trans_f, le_of_eq_f, ge_of_eq_f, eq_trans_f}
 use Rattle.fx_base.proofs.Ratios.{ratio_num, ratio_den, ratio_le, le_ratio}
 use Rattle.fx_base.proofs.Rounding.{quotients-in_order}
 use Rattle.photo_table.specs.Axis.{between, ahead, behind}

@@ -1,10 +1,10 @@
 -- The greatest of one end of a list of spans, so far.
-use Rattle.std.proofs.Common.{ℕ, ◌+◌, ◌<◌, ◌≤◌, ◌≡◌, List, length, map, slice_index_or, max, ℤ, pos, inl, inr, arith, ap, sym, ◌∙◌, subst}
+use Rattle.std.proofs.Common.{ℕ, ◌+◌, ◌<◌, ◌≤◌, ◌≡◌, List, length, map, slice_index_or, max, pos, inl, inr, arith, ap, sym, ◌∙◌, subst}
 use Rattle.std.proofs.lemmas.Bool.{cases_lt}
 use Rattle.std.proofs.lemmas.List.{get_or-map, get_or_default}
 use Rattle.std.proofs.Math.ListN.{length-map}
-use Rattle.fx_base.specs.Fraction.{Fraction, ◌≤ᶠ◌, whole}
-use Rattle.fx_base.specs.Interval.{Interval, exact}
+use Rattle.fx_base.specs.Fraction.{whole}
+use Rattle.fx_base.specs.Interval.{exact}
 use Rattle.fx_base.specs.Ends.{Ends}
 use Rattle.fx_base.specs.Units.{natural, ticks, of_span}
 use Rattle.fx_base.specs.declared.Micro.{Micro}

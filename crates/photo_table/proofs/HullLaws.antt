@@ -1,11 +1,11 @@
 -- The hull contains what it should, grows with its brackets, and meets and is near the hull of the exact table.
-use Rattle.std.proofs.Common.{ℕ, suc, ◌+◌, ◌*◌, ◌≤◌, ◌≡◌, arith, length, slice_index_or, sym}
+use Rattle.std.proofs.Common.{ℕ, suc, ◌+◌, ◌*◌, ◌≤◌, ◌≡◌, arith, length, slice_index_or, sym, List, subst, ◌<◌}
 use Rattle.std.proofs.Math.Nat.{mul-le-mul_left}
 use Rattle.fx_base.specs.Fraction.{Fraction, ◌≤ᶠ◌, ◌≈ᶠ◌, whole, ◌+ᶠ◌, ◌-ᶠ◌, lesser, greater}
-use Rattle.fx_base.specs.Interval.{Interval, InOrder, LiesIn, Meets, Contains, outward, turned}
+use Rattle.fx_base.specs.Interval.{Interval, InOrder, LiesIn, Meets, Contains, turned}
 use Rattle.fx_base.specs.Units.{millionths, ticks}
-use Rattle.fx_base.proofs.Order.{le_refl_f, le_trans_f, eq_of_le_f, eq_sym_f, le_of_eq_f, ge_of_eq_f, add_le_f, add_swap_f, add_cancel_f, add_left_f, add_right_f, le_add_left_f, le_sub_f, sub_le_f, sub_add_f, sub_back_f, le_sub_add_f, le_add_f, add_zero_f}
-use Rattle.fx_base.proofs.Ratios.{greater_left, greater_right, greater_le, le_lesser, whole_split, whole_join, whole_le}
+use Rattle.fx_base.proofs.Order.{le_refl_f, le_trans_f, eq_of_le_f, le_of_eq_f, ge_of_eq_f, add_le_f, add_swap_f, add_cancel_f, le_add_left_f, le_sub_f, sub_le_f, sub_add_f, sub_back_f, le_sub_add_f, le_add_f, add_zero_f}
+use Rattle.fx_base.proofs.Ratios.{greater_left, greater_right, greater_le, le_lesser}
 use Rattle.fx_base.proofs.Near.{meets_sym}
 use Rattle.photo_table.specs.Angles.{turn_later, later}
 use Rattle.photo_table.specs.Table.{Table, IsTable, plane, end_at, lower, upper, value, bilinear}
@@ -118,13 +118,26 @@ ends_cross p t is_p is_t near m n c g d h order_c order_g order_d order_h meet_c
     (le_trans_f (le_of_eq_f (end_moved upper t is_t n b.x z y low_t b.same))
     (extreme_contains greater (λ i j. j ≤ᶠ i) outward_above upper t is_t d' h b.x y (first_below t is_t d.lo) b.inside in_h)))))
 
+-- the exact table has the same planes and gammas, so it is one too
+pub stands_table : (p t : Table) → IsTable p → StandsFor p t → IsTable t
+stands_table p t h s = record {
+  some_plane = let P : List ℕ → Type 0 = λ z. 0 < length z in subst P s.planes h.some_plane;
+  planes_rise = let P : List ℕ → Type 0 = λ z. (i j : ℕ) → i < j → j < length z → slice_index_or z i 0 < slice_index_or z j 0 in subst P s.planes h.planes_rise;
+  first_plane = let P : List ℕ → Type 0 = λ z. slice_index_or z 0 0 ≤ 360000000 in subst P s.planes h.first_plane;
+  one_turn = let P : List ℕ → Type 0 = λ z. (i : ℕ) → i < length z → slice_index_or z i 0 < slice_index_or z 0 0 + 360000000 in subst P s.planes h.one_turn;
+  two_gammas = let P : List ℕ → Type 0 = λ z. 2 ≤ length z in subst P s.gammas h.two_gammas;
+  gammas_rise = let P : List ℕ → Type 0 = λ z. (i j : ℕ) → i < j → j < length z → slice_index_or z i 0 < slice_index_or z j 0 in subst P s.gammas h.gammas_rise;
+  gammas_up_to = let P : List ℕ → Type 0 = λ z. (j : ℕ) → j < length z → slice_index_or z j 0 ≤ 180000000 in subst P s.gammas h.gammas_up_to;
+  all_values = rw (← s.all_values, ← s.planes, ← s.gammas) h.all_values;
+}
+
 pub hulls_meet : HullsMeet
-hulls_meet p t is_p is_t s m n c g d h order_c order_g order_d order_h meet_c meet_g = record {
+hulls_meet p t is_p s m n c g d h order_c order_g order_d order_h meet_c meet_g = let is_t = stands_table p t is_p s in record {
   above = ends_cross p t is_p is_t
-      (record { planes = s.planes; gammas = s.gammas; values = λ i j. le_trans_f (s.low i j) (le_trans_f (s.exact_value i j) (le_add_f (value t i j).hi (whole 0))) })
+      (record { planes = s.planes; gammas = s.gammas; values = λ i j. le_trans_f (s.low i j) (le_trans_f (le_of_eq_f (s.exact i j)) (le_add_f (value t i j).hi (whole 0))) })
       m n c g d h order_c order_g order_d order_h meet_c meet_g;
   below = ends_cross t p is_t is_p
-      (record { planes = sym s.planes; gammas = sym s.gammas; values = λ i j. le_trans_f (s.exact_value i j) (le_trans_f (s.high i j) (le_add_f (value p i j).hi (whole 0))) })
+      (record { planes = sym s.planes; gammas = sym s.gammas; values = λ i j. le_trans_f (le_of_eq_f (s.exact i j)) (le_trans_f (s.high i j) (le_add_f (value p i j).hi (whole 0))) })
       n m d h c g order_d order_h order_c order_g (meets_sym meet_c) (meets_sym meet_g);
 }
 
@@ -175,7 +188,8 @@ near_circle w m n c d small narrow meet = record {
 }
 
 pub hulls_near : HullsNear
-hulls_near p t is_p is_t s w m n c g d h order_c order_g small narrow_c narrow_g high meet_c meet_g =
+hulls_near p t is_p s w m n c g d h order_c order_g small narrow_c narrow_g high meet_c meet_g =
+    let is_t = stands_table p t is_p s in
     let in_c = near_circle w m n c d small narrow_c meet_c in
     let in_g : LiesIn g (loose_gamma w h) = record {
       lower = sub_le_f h.lo w (le_trans_f meet_g.below narrow_g);

@@ -1,20 +1,15 @@
 -- The laws of the hull, for one of its ends at a time.
-use Rattle.std.proofs.Common.{ℕ, suc, ◌+◌, ◌*◌, ◌<◌, ◌≤◌, ◌≡◌, inl, inr, arith, subst, length, slice_index_or}
-use Rattle.std.proofs.Math.Nat.{mul-le-mul_left}
-use Rattle.fx_base.specs.Fraction.{Fraction, ◌≤ᶠ◌, ◌<ᶠ◌, ◌≈ᶠ◌, whole, ◌+ᶠ◌, ◌-ᶠ◌, lesser, greater}
-use Rattle.fx_base.specs.Interval.{Interval, InOrder, LiesIn, Meets, Contains, outward, turned}
-use Rattle.fx_base.specs.Units.{millionths, ticks}
-use Rattle.fx_base.proofs.Order.{le_refl_f, le_trans_f, le_of_lt_f, eq_of_le_f, eq_sym_f, le_of_eq_f, ge_of_eq_f, le_lt_trans_f, lt_le_trans_f, eq_refl_f, eq_trans_f, add_le_f, add_swap_f, add_cancel_f, le_add_left_f, le_sub_f, sub_le_f, sub_add_f, sub_back_f, le_sub_add_f, add_zero_f}
-use Rattle.photo_table.specs.Angles.{turn_later, later}
-use Rattle.photo_table.specs.Axis.{extreme}
-use Rattle.photo_table.specs.Table.{Table, IsTable, plane, gamma, last_gamma, planes_to, end_at, lower, upper, value, bilinear}
-use Rattle.photo_table.specs.Hull.{gamma_extreme, plane_extreme, hull}
-use Rattle.photo_table.proofs.Between.{IsOn}
-use Rattle.photo_table.proofs.Outward.{IsOutward, outward_below, outward_above}
-use Rattle.photo_table.proofs.Knots.{HasPiece}
+use Rattle.std.proofs.Common.{ℕ, ◌*◌, length}
+use Rattle.fx_base.specs.Fraction.{Fraction, ◌≤ᶠ◌, ◌≈ᶠ◌, whole, ◌+ᶠ◌, ◌-ᶠ◌}
+use Rattle.fx_base.specs.Interval.{Interval, InOrder, LiesIn, Contains, turned}
+use Rattle.fx_base.specs.Units.{millionths}
+use Rattle.fx_base.proofs.Order.{le_refl_f, le_trans_f, eq_of_le_f, eq_sym_f, le_lt_trans_f, lt_le_trans_f, eq_refl_f, eq_trans_f, add_le_f, le_add_left_f, le_sub_f, sub_le_f, sub_add_f, le_sub_add_f}
+use Rattle.photo_table.specs.Table.{Table, IsTable, plane, gamma, planes_to, end_at}
+use Rattle.photo_table.specs.Hull.{gamma_extreme, plane_extreme}
+use Rattle.photo_table.proofs.Outward.{IsOutward}
 use Rattle.photo_table.proofs.Corners.{AtCorners, corners_of_all, map_corners, extreme_outward, extreme_within}
 use Rattle.photo_table.proofs.Sheet.{box}
-use Rattle.photo_table.proofs.Tables.{plane_piece, within_planes, Stands, under, over, inside, stands, end_below, end_above, end_straight, end_moved, end_within, ends_of, end_near, IsNear}
+use Rattle.photo_table.proofs.Tables.{plane_piece, within_planes, under, over, inside, stands, end_below, end_above, end_straight, end_moved, ends_of}
 
 -- ---- one end of a hull over brackets that lie above the first plane
 

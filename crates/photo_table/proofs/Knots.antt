@@ -1,10 +1,10 @@
 -- The law of pieces: on whichever piece a place lies, the value there is that of the straight line of this piece.
-use Rattle.std.proofs.Common.{ℕ, zero, suc, ◌+◌, ◌-◌, ◌<◌, ◌≤◌, ◌≡◌, Bool, true, false, inl, inr, arith, subst, refl}
+use Rattle.std.proofs.Common.{ℕ, suc, ◌-◌, ◌<◌, ◌≤◌, ◌≡◌, Bool, true, inl, inr, arith, subst}
 use Rattle.std.proofs.lemmas.Bool.{cases_lt}
-use Rattle.fx_base.specs.Fraction.{Fraction, ◌≤ᶠ◌, ◌<ᶠ◌, ◌≈ᶠ◌, at_most}
+use Rattle.fx_base.specs.Fraction.{Fraction, ◌≤ᶠ◌, ◌≈ᶠ◌, at_most}
 use Rattle.fx_base.specs.Units.{millionths}
 use Rattle.fx_base.specs.Search.{greatest}
-use Rattle.fx_base.proofs.Order.{le_refl_f, le_trans_f, le_of_lt_f, eq_refl_f, eq_sym_f, eq_trans_f, at_most_true, at_most_le, at_most_false}
+use Rattle.fx_base.proofs.Order.{le_trans_f, le_of_lt_f, eq_refl_f, eq_sym_f, eq_trans_f, at_most_true, at_most_le, at_most_false}
 use Rattle.fx_base.proofs.SearchLaws.{greatest_within, greatest_passes, greatest_most, is_true_or_false}
 use Rattle.photo_table.specs.Axis.{between, piece, along}
 use Rattle.photo_table.proofs.Between.{IsOn, at_left, at_right, millionths_le, millionths_back}

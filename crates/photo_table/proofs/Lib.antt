@@ -12,3 +12,4 @@ pub mod Corner
 pub mod Sweeps
 pub mod Greatest
 pub mod Bright
+pub mod FromLists

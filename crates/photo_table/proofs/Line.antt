@@ -1,7 +1,7 @@
 -- Straight lines in whole numbers. On the way from one knot to the next, A lies ahead and B behind, and the value there is
 -- (U A + V B) / (A + B), compared with W.
 use Rattle.std.proofs.Common.{ℕ, ◌+◌, ◌-◌, ◌*◌, ◌<◌, ◌≤◌, ◌≡◌, max, inl, inr, arith, ap}
-use Rattle.std.proofs.Math.Nat.{mul-le-mul_left, mul-lt-mul_of_pos_left, le_of_mul-le-mul_left, mul-pos, mul-sub}
+use Rattle.std.proofs.Math.Nat.{mul-le-mul_left, le_of_mul-le-mul_left, mul-pos, mul-sub}
 use Rattle.std.proofs.lemmas.Bool.{cases_lt}
 
 -- p A ≤ q B goes on towards the greater B

@@ -1,15 +1,15 @@
 -- What the lists of a table say, read one by one.
-use Rattle.std.proofs.Common.{ℕ, zero, suc, ◌+◌, ◌-◌, ◌*◌, ◌/◌, ◌%◌, ◌<◌, ◌≤◌, ◌≡◌, List, length, map, slice_index_or, arith, ap, refl, subst, inl, inr, sym, ◌∙◌}
+use Rattle.std.proofs.Common.{ℕ, zero, suc, ◌+◌, ◌-◌, ◌*◌, ◌/◌, ◌%◌, ◌<◌, ◌≤◌, ◌≡◌, List, length, map, slice_index_or, arith, ap, refl, inl, inr, sym, ◌∙◌}
 use Rattle.std.proofs.Math.Nat.{mul-le-mul_left}
 use Rattle.std.proofs.lemmas.Bool.{cases_lt}
 use Rattle.std.proofs.lemmas.List.{get_or-map}
 use Rattle.std.proofs.Math.ListN.{length-map}
-use Rattle.fx_base.specs.Fraction.{Fraction, whole}
-use Rattle.fx_base.specs.Interval.{Interval, exact}
+use Rattle.fx_base.specs.Fraction.{whole}
+use Rattle.fx_base.specs.Interval.{exact}
 use Rattle.fx_base.specs.Ends.{Ends}
 use Rattle.fx_base.specs.Units.{of_span}
 use Rattle.fx_base.specs.declared.Micro.{Micro}
-use Rattle.photo_table.specs.Table.{Table, IsTable, plane, gamma, value}
+use Rattle.photo_table.specs.Table.{Table, IsTable, plane, value}
 use Rattle.photo_table.specs.Kept.{IsKept, angle_of, table_of}
 use Rattle.photo_table.proofs.Tables.{plane_at}
 

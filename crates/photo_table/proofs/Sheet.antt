@@ -1,12 +1,12 @@
 -- A value over two axes that is straight along each on every piece: a bound at the corners of a box is one in the whole box.
 use Rattle.std.proofs.Common.{ℕ, suc, ◌<◌}
-use Rattle.fx_base.specs.Fraction.{Fraction, ◌≤ᶠ◌, ◌≈ᶠ◌}
+use Rattle.fx_base.specs.Fraction.{Fraction, ◌≈ᶠ◌}
 use Rattle.fx_base.specs.Interval.{Interval, Contains}
 use Rattle.fx_base.proofs.Order.{eq_sym_f, eq_trans_f}
 use Rattle.photo_table.specs.Axis.{between}
 use Rattle.photo_table.proofs.Between.{IsOn, swap_axes}
 use Rattle.photo_table.proofs.Outward.{IsOutward}
-use Rattle.photo_table.proofs.Corners.{AtCorners, HasBefore, HasAfter, corner_before, corner_after}
+use Rattle.photo_table.proofs.Corners.{AtCorners, corner_before, corner_after}
 
 -- the value at x on the i-th piece of the first axis and y on the j-th of the second
 unfoldable pub across : (ℕ → ℕ) → (ℕ → ℕ) → (ℕ → ℕ → Fraction) → ℕ → ℕ → Fraction → Fraction → Fraction

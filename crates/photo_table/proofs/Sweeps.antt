@@ -1,8 +1,7 @@
 -- The hull so far, corner after corner.
-use Rattle.std.proofs.Common.{ℕ, suc, ◌+◌, ◌-◌, ◌<◌, ◌≤◌, ◌≡◌, min, max, inl, inr, arith, subst, ap}
+use Rattle.std.proofs.Common.{ℕ, ◌+◌, ◌-◌, ◌<◌, ◌≤◌, ◌≡◌, min, max, inl, inr, arith, subst}
 use Rattle.std.proofs.lemmas.Bool.{cases_lt}
 use Rattle.fx_base.specs.Fraction.{Fraction, ◌≤ᶠ◌, lesser, greater}
-use Rattle.fx_base.specs.Interval.{Interval}
 use Rattle.fx_base.specs.Units.{ticks, millionths}
 use Rattle.fx_base.proofs.Order.{le_trans_f}
 use Rattle.fx_base.proofs.Sums.{ticks_le}

@@ -4,13 +4,12 @@ use Rattle.std.proofs.Math.Nat.{mul-le-mul_left, le_of_mul-le-mul_left, mul-pos,
 use Rattle.std.proofs.lemmas.Nat.{div-mul-add, mod-mul-add}
 use Rattle.std.proofs.lemmas.Bool.{cases_lt}
 use Rattle.fx_base.specs.Fraction.{Fraction, ◌≤ᶠ◌, ◌<ᶠ◌, ◌≈ᶠ◌, at_most, whole, ◌+ᶠ◌}
-use Rattle.fx_base.specs.Interval.{Interval, Contains}
+use Rattle.fx_base.specs.Interval.{Interval}
 use Rattle.fx_base.specs.Units.{millionths}
-use Rattle.fx_base.proofs.Order.{le_refl_f, le_trans_f, le_of_lt_f, lt_or_le_f, le_lt_trans_f, lt_le_trans_f, eq_refl_f, eq_sym_f, eq_trans_f, at_most_true, at_most_not, le_of_eq_f, ge_of_eq_f, zero_le_f, add_zero_f, le_add_left_f, add_le_f}
-use Rattle.photo_table.specs.Angles.{turn_later}
+use Rattle.fx_base.proofs.Order.{le_refl_f, le_trans_f, le_of_lt_f, lt_or_le_f, le_lt_trans_f, eq_refl_f, eq_sym_f, eq_trans_f, at_most_true, at_most_not, le_of_eq_f, ge_of_eq_f, zero_le_f, add_le_f}
 use Rattle.photo_table.specs.Axis.{between, along}
 use Rattle.photo_table.specs.Table.{Table, IsTable, plane, gamma, last_gamma, value, planes_to, end_at}
-use Rattle.photo_table.proofs.Between.{IsOn, between_eq, between_moved, between_near, at_left, at_right, millionths_le, millionths_back}
+use Rattle.photo_table.proofs.Between.{IsOn, between_eq, between_moved, between_near, at_left, at_right, millionths_le}
 use Rattle.photo_table.proofs.Outward.{IsOutward}
 use Rattle.photo_table.proofs.Knots.{IsRising, HasPiece, rising_le, along_is, piece_of}
 use Rattle.photo_table.proofs.Sheet.{IsStraight, across}

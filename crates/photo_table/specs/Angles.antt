@@ -1,7 +1,6 @@
 -- Angles in degrees, and brackets of them.
-use Rattle.std.specs.Prelude.{ℕ, ◌+◌, ◌*◌, Bool, ◌&&◌}
-use Rattle.std.proofs.Math.Nat.{zero-lt-suc}
-use Rattle.fx_base.specs.Fraction.{Fraction, ◌≤ᶠ◌, at_most, ◌-ᶠ◌, ◌+ᶠ◌, whole, lesser}
+use Rattle.std.specs.Prelude.{◌+◌, ◌*◌, Bool, ◌&&◌}
+use Rattle.fx_base.specs.Fraction.{Fraction, at_most}
 use Rattle.fx_base.specs.Interval.{Interval}
 use Rattle.fx_base.specs.Units.{natural, millionths}
 use Rattle.fx_base.specs.declared.Bracket.{Bracket}

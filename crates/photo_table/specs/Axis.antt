@@ -1,8 +1,8 @@
 -- A value that runs in straight lines from knot to knot. Knots are whole millionths of a degree and rise with their number;
 -- places are fractions of degrees.
-use Rattle.std.specs.Prelude.{ℕ, zero, suc, ◌+◌, ◌-◌, ◌*◌, ◌<◌, ◌≤◌, Bool, ◌&&◌, if◌then◌else◌, max}
+use Rattle.std.specs.Prelude.{ℕ, zero, suc, ◌-◌, ◌*◌, if◌then◌else◌, max}
 use Rattle.std.proofs.Math.Nat.{mul-pos, le-max_left}
-use Rattle.fx_base.specs.Fraction.{Fraction, ◌≤ᶠ◌, at_most, ◌+ᶠ◌, ◌*ᶠ◌}
+use Rattle.fx_base.specs.Fraction.{Fraction, at_most, ◌+ᶠ◌, ◌*ᶠ◌}
 use Rattle.fx_base.specs.Interval.{Interval}
 use Rattle.fx_base.specs.Units.{millionths}
 use Rattle.fx_base.specs.Search.{greatest}

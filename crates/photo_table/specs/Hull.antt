@@ -1,8 +1,8 @@
 -- The hull of the intensities over a bracket of C and one of gamma.
-use Rattle.std.specs.Prelude.{ℕ, length}
+use Rattle.std.specs.Prelude.{length}
 use Rattle.fx_base.specs.Fraction.{Fraction, lesser, greater}
 use Rattle.fx_base.specs.Interval.{Interval}
-use Rattle.photo_table.specs.Angles.{turn_later, later}
+use Rattle.photo_table.specs.Angles.{later}
 use Rattle.photo_table.specs.Axis.{extreme}
 use Rattle.photo_table.specs.Table.{Table, plane, gamma, planes_to, lower, upper, end_at}
 

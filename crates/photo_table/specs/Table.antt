@@ -1,6 +1,6 @@
 -- A table of intensities, and the value between its directions. Angles are millionths of a degree, intensities intervals of candela.
-use Rattle.std.specs.Prelude.{ℕ, zero, suc, ◌+◌, ◌-◌, ◌*◌, ◌/◌, ◌%◌, ◌<◌, ◌≤◌, ◌≡◌, Bool, ◌&&◌, if◌then◌else◌, List, length, slice_index_or}
-use Rattle.fx_base.specs.Fraction.{Fraction, ◌≤ᶠ◌, at_most, whole}
+use Rattle.std.specs.Prelude.{ℕ, suc, ◌+◌, ◌-◌, ◌*◌, ◌/◌, ◌%◌, ◌<◌, ◌≤◌, ◌≡◌, ◌&&◌, if◌then◌else◌, List, length, slice_index_or}
+use Rattle.fx_base.specs.Fraction.{Fraction, at_most, whole}
 use Rattle.fx_base.specs.Interval.{Interval, exact}
 use Rattle.fx_base.specs.Units.{millionths}
 use Rattle.photo_table.specs.Angles.{turn_later}

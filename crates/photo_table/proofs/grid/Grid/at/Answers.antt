@@ -1,8 +1,7 @@
-use Rattle.std.proofs.Common.{◌≡◌, ◌+◌, ◌-◌, ◌<◌, arith, length, slice_index_or, map}
+use Rattle.std.proofs.Common.{◌≡◌, arith, length}
 use Rattle.fx_base.specs.Units.{millionths}
 use Rattle.photo_table.specs.Table.{lower, upper}
 use Rattle.photo_table.specs.Grid.{table_in}
-use Rattle.photo_table.specs.Kept.{angle_of}
 use Rattle.photo_table.proofs.Corner.{dark_rounds}
 use Rattle.photo_table.proofs.Lists.{gammas_rise, count_is}
 use Rattle.photo_table.proofs.Tables.{end_below, end_above, millionths_lt}

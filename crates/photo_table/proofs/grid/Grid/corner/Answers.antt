@@ -1,4 +1,4 @@
-use Rattle.std.proofs.Common.{◌+◌, ◌-◌, ◌*◌, ◌<◌, ◌≤◌, ◌≡◌, suc, arith, refl, length, subst}
+use Rattle.std.proofs.Common.{◌+◌, ◌-◌, ◌<◌, arith, length}
 use Rattle.std.proofs.Math.Nat.{mul-pos}
 use Rattle.photo_table.specs.Table.{plane, gamma, lower, upper}
 use Rattle.photo_table.specs.Grid.{table_in}

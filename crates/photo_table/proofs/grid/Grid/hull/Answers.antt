@@ -1,4 +1,4 @@
-use Rattle.std.proofs.Common.{◌+◌, ◌≤◌, arith}
+use Rattle.std.proofs.Common.{◌+◌, arith}
 use Rattle.fx_base.specs.Units.{natural}
 use Rattle.fx_base.proofs.Rounding.{natural-mono}
 use Rattle.photo_table.specs.Grid.{table_in}

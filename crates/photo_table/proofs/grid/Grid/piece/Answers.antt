@@ -1,6 +1,5 @@
-use Rattle.std.proofs.Common.{◌≡◌, ◌+◌, ◌≤◌, ℕ, ◌<◌, ◌%◌, arith, length, slice_index_or, map, sym, ◌∙◌}
+use Rattle.std.proofs.Common.{◌≡◌, arith, length, sym, ◌∙◌}
 use Rattle.photo_table.specs.Grid.{table_in}
-use Rattle.photo_table.specs.Kept.{angle_of}
 use Rattle.photo_table.proofs.Lists.{piece_low, piece_high, count_is}
 use Rattle.photo_table.proofs.grid.Grid.piece.Goals as goal
 

@@ -1,4 +1,4 @@
-use Rattle.std.proofs.Common.{◌≡◌, ◌<◌, ◌≤◌, arith, length}
+use Rattle.std.proofs.Common.{◌<◌, ◌≤◌, arith, length}
 use Rattle.fx_base.specs.Units.{millionths}
 use Rattle.photo_table.specs.Table.{gamma, lower, upper, end_at}
 use Rattle.photo_table.specs.Hull.{gamma_extreme}

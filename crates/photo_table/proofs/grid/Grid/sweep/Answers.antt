@@ -1,4 +1,4 @@
-use Rattle.std.proofs.Common.{◌≡◌, ◌+◌, ◌<◌, ◌≤◌, arith, length}
+use Rattle.std.proofs.Common.{◌+◌, ◌≤◌, arith}
 use Rattle.fx_base.specs.Fraction.{lesser, greater}
 use Rattle.fx_base.specs.Units.{millionths}
 use Rattle.photo_table.specs.Table.{plane, planes_to, lower, upper}
@@ -7,7 +7,7 @@ use Rattle.photo_table.specs.Grid.{table_in}
 use Rattle.photo_table.specs.Kept.{angles_between}
 use Rattle.photo_table.proofs.Lists.{few_planes}
 use Rattle.photo_table.proofs.Between.{millionths_le}
-use Rattle.photo_table.proofs.Tables.{plane_le, plane_rises, within_planes}
+use Rattle.photo_table.proofs.Tables.{plane_le, within_planes}
 use Rattle.photo_table.proofs.Sweeps.{swept_start, swept_more, swept_end}
 use Rattle.photo_table.proofs.grid.Grid.sweep.Goals as goal
 

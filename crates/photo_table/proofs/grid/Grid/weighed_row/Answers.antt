@@ -1,4 +1,4 @@
-use Rattle.std.proofs.Common.{◌+◌, ◌<◌, ◌≡◌, arith}
+use Rattle.std.proofs.Common.{◌+◌, ◌<◌, arith}
 use Rattle.photo_table.specs.Table.{gamma}
 use Rattle.photo_table.specs.Grid.{table_in}
 use Rattle.photo_table.proofs.Corner.{row_value}
