@@ -1,6 +1,7 @@
 -- When given lists make a table: each rises, and every number is in its range.
-use Rattle.std.proofs.Common.{ℕ, zero, suc, ◌*◌, ◌<◌, ◌≤◌, ◌≡◌, ◌≤ℤ◌, pos, List, [], ◌∷◌, length, map, slice_index_or, arith}
+use Rattle.std.proofs.Common.{ℕ, zero, suc, ◌*◌, ◌<◌, ◌≤◌, ◌≡◌, ◌≤ℤ◌, pos, List, [], ◌∷◌, length, map, slice_index_or, arith, ◌^◌}
 use Rattle.std.proofs.Math.ListN.{length-map}
+use Rattle.std.proofs.lemmas.Int.{ints}
 use Rattle.fx_base.specs.Ends.{Ends}
 use Rattle.fx_base.specs.Units.{of_span}
 use Rattle.fx_base.specs.declared.Micro.{Micro}
@@ -58,3 +59,11 @@ kept_of p ps g gs vs planes_rise planes_natural planes_below gammas_rise gammas_
       gammas_not_negative = λ i d q. all_at (λ (m : Micro). pos 0 ≤ℤ m.0) (g ∷ gs) gammas_natural i d q;
       intensities = λ i d q. all_at IsIntensity vs values i d q;
     }
+
+-- a whole number of candela
+pub whole_intensity : (e : Ends) (n : ℕ) → e.lo ≡ pos (n * 2 ^ 36) → e.hi ≡ pos (n * 2 ^ 36) → n ≤ 10000000 → IsIntensity e
+whole_intensity e n g h p = record {
+  not_negative = rw g (omega (arith, ints));
+  in_order = rw (g, h) (omega (arith, ints));
+  high = rw h (omega arith);
+}
