@@ -1,0 +1,15 @@
+pub mod Line
+pub mod Between
+pub mod Outward
+pub mod Knots
+pub mod Corners
+pub mod Sheet
+pub mod Tables
+pub mod Hulls
+pub mod HullLaws
+pub mod Lists
+pub mod Corner
+pub mod Sweeps
+pub mod Greatest
+pub mod Bright
+pub mod FromLists

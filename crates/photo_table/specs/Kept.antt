@@ -1,0 +1,89 @@
+-- What the lists of a table keep, and how near its answers are.
+use Rattle.std.specs.Prelude.{ℕ, ◌+◌, ◌-◌, ◌*◌, ◌/◌, ◌%◌, ◌<◌, ◌≤◌, ◌≡◌, ◌≤ℤ◌, pos, List, [], ◌∷◌, ◌++◌, length, map, slice_index_or, codes, decimal}
+use Rattle.std.specs.Int.{div_ceil}
+use Rattle.fx_base.specs.Fraction.{Fraction, ◌≤ᶠ◌, whole}
+use Rattle.fx_base.specs.Interval.{Interval, exact}
+use Rattle.fx_base.specs.Ends.{Ends}
+use Rattle.fx_base.specs.Units.{natural, ticks, millionths, of_span}
+use Rattle.fx_base.specs.declared.Micro.{Micro}
+use Rattle.photo_table.specs.Table.{Table, IsTable, lower, upper}
+
+abbrev pub angle_of : Micro → ℕ
+angle_of m = natural m.0
+
+-- the table that the lists of a program say
+abbrev pub table_of : List Micro → List Micro → List Ends → Table
+table_of planes gammas values = record { planes = map angle_of planes; gammas = map angle_of gammas; values = map of_span values }
+
+-- from 0 to 10,000,000 candela
+pub record IsIntensity (e : Ends) : Type 0 where
+  pub not_negative : pos 0 ≤ℤ e.lo
+  pub in_order : e.lo ≤ℤ e.hi
+  pub high : natural e.hi ≤ 687194767360000000
+
+-- a table of intensities up to 10,000,000 candela in half-planes from 0 to below 360 degrees
+pub record IsKept (planes gammas : List Micro) (values : List Ends) : Type 0 where
+  pub is_table : IsTable (table_of planes gammas values)
+  pub planes_not_negative : (i : ℕ) (d : Micro) → i < length planes → pos 0 ≤ℤ (slice_index_or planes i d).0
+  pub planes_below : (i : ℕ) → i < length planes → slice_index_or (map angle_of planes) i 0 < 360000000
+  pub gammas_not_negative : (i : ℕ) (d : Micro) → i < length gammas → pos 0 ≤ℤ (slice_index_or gammas i d).0
+  pub intensities : (i : ℕ) (d : Ends) → i < length values → IsIntensity (slice_index_or values i d)
+
+abbrev pub angles_between : ℕ → ℕ → Interval
+angles_between low high = record { lo = millionths low; hi = millionths high }
+
+abbrev pub ticks_between : ℕ → ℕ → Interval
+ticks_between low high = record { lo = ticks low; hi = ticks high }
+
+-- f and g rounded outward, each by at most a tick
+pub record Rounds (f g : Fraction) (lo hi : ℕ) : Type 0 where
+  pub low : ticks lo ≤ᶠ f
+  pub low_near : f ≤ᶠ ticks (lo + 1)
+  pub high : g ≤ᶠ ticks hi
+  pub high_near : ticks (hi - 1) ≤ᶠ g
+  pub in_order : lo ≤ hi
+
+-- x is the greatest of one end of a table's intensities
+pub record IsGreatest (end : Interval → Fraction) (t : Table) (x : Fraction) : Type 0 where
+  pub all : (k : ℕ) → k < length t.values → end (slice_index_or t.values k (exact (whole 0))) ≤ᶠ x
+  pub place : ℕ
+  pub within : place < length t.values
+  pub is : end (slice_index_or t.values place (exact (whole 0))) ≡ x
+
+-- the table of one intensity in all directions
+abbrev pub even_table : ℕ → Table
+even_table candela = record {
+  planes = 0 ∷ [];
+  gammas = 0 ∷ 180000000 ∷ [];
+  values = ticks_between (candela * 68719476736) (candela * 68719476736) ∷ ticks_between (candela * 68719476736) (candela * 68719476736) ∷ [];
+}
+
+-- ---- the summary
+
+abbrev pub digit : ℕ → List ℕ
+digit n = decimal (n % 10)
+
+-- with two decimals
+abbrev pub hundredths : ℕ → List ℕ
+hundredths n = decimal (n / 100) ++ codes "." ++ digit (n / 10) ++ digit n
+
+-- so many ticks in hundredths of a candela, rounded down and rounded up
+abbrev pub hundredths_below : ℕ → ℕ
+hundredths_below t = t * 100 / 68719476736
+
+abbrev pub hundredths_above : ℕ → ℕ
+hundredths_above t = div_ceil (t * 100) 68719476736
+
+-- how many planes and gammas, and the greatest intensity between the two numbers that are printed of it
+abbrev pub summary_line : Table → ℕ → ℕ → List ℕ
+summary_line t low high =
+    codes "planes " ++ decimal (length t.planes) ++ codes " gammas " ++ decimal (length t.gammas)
+    ++ codes " greatest " ++ hundredths (hundredths_below low) ++ codes " " ++ hundredths (hundredths_above high)
+
+-- the text is that line for the greatest lower and the greatest upper end
+pub record IsSummary (t : Table) (text : List ℕ) : Type 0 where
+  pub low : ℕ
+  pub high : ℕ
+  pub low_is : IsGreatest lower t (ticks low)
+  pub high_is : IsGreatest upper t (ticks high)
+  pub line : text ≡ summary_line t low high
