@@ -1,0 +1,5 @@
+pub mod Candidates
+pub mod Found
+pub mod RowTest
+pub mod Steps
+pub mod Tangents
