@@ -3,16 +3,17 @@ ghost use Rattle.fx_base.specs.Fraction.{◌≤ᶠ◌};
 ghost use Rattle.fx_base.specs.Interval.{Meets};
 ghost use Rattle.fx_base.specs.Units.{millionths};
 ghost use Rattle.series_enclose.specs.Slant.{slant as slant_of};
-ghost use Rattle.angle_bracket.specs.Angles.{of_bracket, IsRowAngle};
+ghost use Rattle.angle_bracket.specs.Angles.{of_bracket, between, IsRowAngle};
 
-use fx_base::{Bracket, Micro, magnitude};
+use crate::arc::{Arc, bracket_of};
+use fx_base::{Bracket, magnitude};
 use series_enclose::TangentTable;
 
 /// The row of 45 degrees.
 const LAST_ROW: usize = 2_880;
 
 /// The millionths of a degree from one row to the next.
-const STEP: i64 = 15_625;
+const STEP: u32 = 15_625;
 
 /// Whether the tangent of a row's angle is at most the root of `y / x`, by the upper end of its sine and the lower one of its
 /// cosine. Where it isn't, the angle of that slope is below any angle that is later than the row's.
@@ -51,8 +52,28 @@ fn last_row_below(table: &TangentTable, x: u64, y: u64) -> usize
     low
 }
 
-/// The angle whose tangent is the root of `y / x`, by the sines and cosines of the table's rows: from the last row that is found
-/// to be below it to the second one after that.
+/// The angle whose tangent is the root of `y / x`: from the last row that is found to be below it to the second one after that.
+pub fn slope_angle(table: &TangentTable, x: u64, y: u64) -> Arc
+    requires some { 0 < x }
+    requires x { x < 2 ^ 40 }
+    requires y { y ≤ x }
+    ensures meets { (n : ℕ) → Meets (between result.lo result.hi) (slant_of n x y) }
+    ensures narrow { result.hi ≤ result.lo + 31250 }
+    ensures low_row { IsRowAngle (pos result.lo) }
+    ensures high_row { IsRowAngle (pos result.hi) }
+    ensures order { result.lo ≤ result.hi }
+    ensures within { result.hi ≤ 45000000 }
+    ensures positive { 0 < y → 0 < result.hi }
+{
+    let row = last_row_below(table, x, y);
+    let next = (row + 2).min(LAST_ROW);
+    Arc {
+        lo: row as u32 * STEP,
+        hi: next as u32 * STEP,
+    }
+}
+
+/// The angle whose tangent is the root of `y / x`, by the sines and cosines of the table's rows.
 pub fn slant(table: &TangentTable, x: u64, y: u64) -> Bracket
     requires some { 0 < x }
     requires x { x < 2 ^ 40 }
@@ -64,10 +85,5 @@ pub fn slant(table: &TangentTable, x: u64, y: u64) -> Bracket
     ensures in_order { result.lo.0 ≤ℤ result.hi.0 }
     ensures positive { 0 < y → pos 0 <ℤ result.hi.0 }
 {
-    let row = last_row_below(table, x, y);
-    let next = (row + 2).min(LAST_ROW);
-    Bracket {
-        lo: Micro(row as i64 * STEP),
-        hi: Micro(next as i64 * STEP),
-    }
+    bracket_of(slope_angle(table, x, y))
 }
