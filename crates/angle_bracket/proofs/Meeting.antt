@@ -1,15 +1,18 @@
 -- What is done to an angle between whole millionths of a degree meets what is done to an enclosure that it meets.
-use Rattle.std.proofs.Common.{ℕ, ◌+◌, ◌-◌, ◌*◌, ◌<◌, ◌≤◌, ◌≡◌, inl, inr, true, false, arith, nat_le}
+use mir.Syntax.{w32}
+use mir.Val.{SFits, of_z, to_z}
+use Rattle.std.proofs.Common.{ℕ, ◌+◌, ◌-◌, ◌*◌, ◌<◌, ◌≤◌, ◌≡◌, inl, inr, Bool, true, false, arith, nat_le, nat_eq, ℤ, ◌∙◌, ap, sym, subst}
 use Rattle.std.proofs.Math.Nat.{mul-sub}
 use Rattle.std.proofs.lemmas.Bool.Decides.{nat_tests}
+use Rattle.std.proofs.lemmas.Int.{to_z-of_z}
 use Rattle.fx_base.specs.Fraction.{Fraction, ◌≤ᶠ◌, ◌+ᶠ◌, ◌-ᶠ◌, whole, at_most}
-use Rattle.fx_base.specs.Interval.{Interval, Meets, MeetsOnCircle, turned}
+use Rattle.fx_base.specs.Interval.{Interval, exact, Meets, MeetsOnCircle}
 use Rattle.fx_base.specs.Units.{millionths}
 use Rattle.fx_base.proofs.Order.{le_refl_f, le_trans_f, add_le_f, sub_mono_f, sub_le_f, le_sub_f, sub_add_f, le_sub_add_f, add_zero_f, le_add_f, at_most_le}
 use Rattle.fx_base.proofs.SearchLaws.{is_true_or_false}
 use Rattle.series_enclose.specs.Slant.{slant}
 use Rattle.angle_bracket.specs.Angles.{between}
-use Rattle.angle_bracket.specs.Direction.{less_angle, plus_angle, quarter_angle, in_quarter, less_turn, brought}
+use Rattle.angle_bracket.specs.Direction.{square, is_negative, is_positive, less_angle, plus_angle, quarter_angle, in_quarter, angle_c, less_turn, brought, direction_c, direction_gamma}
 
 -- ---- millionths and whole degrees
 
@@ -125,3 +128,74 @@ meets_turned_earlier turn lo hi t h late m =
     let high = hi + (360 - turn) * 1000000 in
     earlier_brought (between (low - 360000000) (high - 360000000)) (between low high) (less_turn turn t)
     (turn_low low late) (turn_high high) (meets_less_turn turn lo hi t h m)
+
+-- ---- by quarters
+
+pub meets_south_west : (west south : Bool) (lo hi : ℕ) (t : Interval) → south ≡ true → west ≡ true → Meets (between lo hi) t
+    → Meets (between (180 * 1000000 + lo) (180 * 1000000 + hi)) (in_quarter west south t)
+unfolding in_quarter
+meets_south_west west south lo hi t s w m = rw (in_quarter, s, w) (meets_plus 180 lo hi t m)
+
+pub meets_south_east : (west south : Bool) (lo hi : ℕ) (t : Interval) → south ≡ true → west ≡ false → Meets (between lo hi) t
+    → Meets (between (360 * 1000000 - hi) (360 * 1000000 - lo)) (in_quarter west south t)
+unfolding in_quarter
+meets_south_east west south lo hi t s w m = rw (in_quarter, s, w) (meets_less 360 lo hi t m)
+
+pub meets_north_west : (west south : Bool) (lo hi : ℕ) (t : Interval) → south ≡ false → west ≡ true → Meets (between lo hi) t
+    → Meets (between (180 * 1000000 - hi) (180 * 1000000 - lo)) (in_quarter west south t)
+unfolding in_quarter
+meets_north_west west south lo hi t s w m = rw (in_quarter, s, w) (meets_less 180 lo hi t m)
+
+pub meets_north_east : (west south : Bool) (lo hi : ℕ) (t : Interval) → south ≡ false → west ≡ false → Meets (between lo hi) t
+    → Meets (between lo hi) (in_quarter west south t)
+unfolding in_quarter
+meets_north_east west south lo hi t s w m = rw (in_quarter, s, w) m
+
+-- ---- the two angles
+
+-- what a call has made of a coordinate that was passed as 32 bits
+pub squared : (d : ℤ) (r : ℕ) → SFits w32 d → r ≡ square (to_z w32 (of_z w32 d)) → r ≡ square d
+squared d r fits e = e ∙ ap square (to_z-of_z w32 d fits)
+
+pub tested : (test : ℤ → Bool) (d : ℤ) (b : Bool) → SFits w32 d → test (to_z w32 (of_z w32 d)) ≡ b → test d ≡ b
+tested test d b fits e = sym (ap test (to_z-of_z w32 d fits)) ∙ e
+
+pub same_quarter : (dx dy : ℤ) (q a : Interval) → SFits w32 dx → SFits w32 dy
+    → ((t : Interval) → Meets q t → Meets a (in_quarter (is_negative (to_z w32 (of_z w32 dx))) (is_negative (to_z w32 (of_z w32 dy))) t))
+    → (t : Interval) → Meets q t → Meets a (in_quarter (is_negative dx) (is_negative dy) t)
+same_quarter dx dy q a fits fits' quarter t m =
+    let P : ℤ → ℤ → Type 0 = λ x y. Meets a (in_quarter (is_negative x) (is_negative y) t) in
+    subst (λ (x : ℤ). P x dy) (to_z-of_z w32 dx fits) (subst (λ (y : ℤ). P (to_z w32 (of_z w32 dx)) y) (to_z-of_z w32 dy fits') (quarter t m))
+
+nothing_meets : Meets (between 0 0) (exact (whole 0))
+unfolding millionths whole
+nothing_meets = record { above = record { cross = omega arith }; below = record { cross = omega arith } }
+
+pub meets_nowhere : (n : ℕ) (dx dy : ℤ) (turn : ℕ) → square dx + square dy ≡ 0 → MeetsOnCircle (between 0 0) (direction_c n dx dy turn)
+unfolding direction_c
+meets_nowhere n dx dy turn none =
+    let e : nat_eq (square dx + square dy) 0 ≡ true = grind (arith, nat_tests) in
+    rw (direction_c, e) (no_turn (between 0 0) (exact (whole 0)) nothing_meets)
+
+pub meets_c : (n east north turn : ℕ) (dx dy : ℤ) (q a r : Interval) → east ≡ square dx → north ≡ square dy → 0 < east + north
+    → Meets q (quarter_angle n east north) → ((t : Interval) → Meets q t → Meets a (in_quarter (is_negative dx) (is_negative dy) t))
+    → ((t : Interval) → Meets a t → MeetsOnCircle r (brought (less_turn turn t))) → MeetsOnCircle r (direction_c n dx dy turn)
+unfolding direction_c angle_c
+meets_c n east north turn dx dy q a r e f some m quarter back =
+    let k = rw (e, f) at m in
+    let test : nat_eq (square dx + square dy) 0 ≡ false = grind (arith, nat_tests) in
+    rw (direction_c, test) (back (angle_c n dx dy) (quarter (quarter_angle n (square dx) (square dy)) k))
+
+pub meets_gamma_above : (n v h lo hi : ℕ) (dx dy dz : ℤ) → v ≡ square dz → h ≡ square dx + square dy → is_positive dz ≡ true
+    → Meets (between lo hi) (quarter_angle n v h) → Meets (between (180 * 1000000 - hi) (180 * 1000000 - lo)) (direction_gamma n dx dy dz)
+unfolding direction_gamma
+meets_gamma_above n v h lo hi dx dy dz e f test m =
+    let k = rw (e, f) at m in
+    rw (direction_gamma, test) (meets_less 180 lo hi (quarter_angle n (square dz) (square dx + square dy)) k)
+
+pub meets_gamma_below : (n v h lo hi : ℕ) (dx dy dz : ℤ) → v ≡ square dz → h ≡ square dx + square dy → is_positive dz ≡ false
+    → Meets (between lo hi) (quarter_angle n v h) → Meets (between lo hi) (direction_gamma n dx dy dz)
+unfolding direction_gamma
+meets_gamma_below n v h lo hi dx dy dz e f test m =
+    let k = rw (e, f) at m in
+    rw (direction_gamma, test) k
