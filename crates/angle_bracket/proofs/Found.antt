@@ -1,11 +1,10 @@
 -- How far the search for a slope's row has come.
-use Rattle.std.proofs.Common.{ℕ, ◌+◌, ◌*◌, ◌<◌, ◌≤◌, ◌≡◌, min, arith, subst, inl, inr}
-use Rattle.std.proofs.lemmas.Bool.{cases_lt}
-use Rattle.fx_base.specs.Fraction.{Fraction, ◌≤ᶠ◌, whole}
+use Rattle.std.proofs.Common.{ℕ, ◌+◌, ◌*◌, ◌<◌, ◌≤◌, ◌≡◌, min, arith, subst}
+use Rattle.fx_base.specs.Fraction.{◌≤ᶠ◌, whole}
 use Rattle.fx_base.specs.Units.{millionths}
 use Rattle.fx_base.proofs.Order.{le_trans_f, zero_le_f}
 use Rattle.series_enclose.specs.Slant.{slant}
-use Rattle.angle_bracket.proofs.Candidates.{low_within, high_within}
+use Rattle.angle_bracket.proofs.Candidates.{low_within}
 
 -- the row `low` is at most each upper end, and the row after `high`, at most the last one, is at least each lower end
 pub record IsFound (x y low high : ℕ) : Type 0 where

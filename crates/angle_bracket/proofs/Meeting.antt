@@ -2,10 +2,9 @@
 use mir.Syntax.{w32}
 use mir.Val.{SFits, of_z, to_z}
 use Rattle.std.proofs.Common.{ℕ, ◌+◌, ◌-◌, ◌*◌, ◌<◌, ◌≤◌, ◌≡◌, inl, inr, Bool, true, false, arith, nat_le, nat_eq, ℤ, ◌∙◌, ap, sym, subst}
-use Rattle.std.proofs.Math.Nat.{mul-sub}
 use Rattle.std.proofs.lemmas.Bool.Decides.{nat_tests}
 use Rattle.std.proofs.lemmas.Int.{to_z-of_z}
-use Rattle.fx_base.specs.Fraction.{Fraction, ◌≤ᶠ◌, ◌+ᶠ◌, ◌-ᶠ◌, whole, at_most}
+use Rattle.fx_base.specs.Fraction.{◌≤ᶠ◌, ◌+ᶠ◌, ◌-ᶠ◌, whole, at_most}
 use Rattle.fx_base.specs.Interval.{Interval, exact, Meets, MeetsOnCircle}
 use Rattle.fx_base.specs.Units.{millionths}
 use Rattle.fx_base.proofs.Order.{le_refl_f, le_trans_f, add_le_f, sub_mono_f, sub_le_f, le_sub_f, sub_add_f, le_sub_add_f, add_zero_f, le_add_f, at_most_le}

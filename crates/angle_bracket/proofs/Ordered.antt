@@ -1,8 +1,7 @@
 -- The ends of the directions' enclosures are in order at every depth.
-use Rattle.std.proofs.Common.{ℕ, ◌+◌, ◌*◌, ◌<◌, ◌≤◌, ◌≡◌, inl, inr, Bool, true, false, arith, ℤ, nat_le, nat_eq}
-use Rattle.std.proofs.lemmas.Bool.{cases_lt}
+use Rattle.std.proofs.Common.{ℕ, ◌+◌, ◌<◌, ◌≤◌, inl, inr, Bool, true, false, arith, ℤ, nat_le, nat_eq}
 use Rattle.std.proofs.lemmas.Bool.Decides.{nat_tests}
-use Rattle.fx_base.specs.Fraction.{Fraction, ◌≤ᶠ◌, ◌+ᶠ◌, ◌-ᶠ◌, whole, at_most}
+use Rattle.fx_base.specs.Fraction.{whole, at_most}
 use Rattle.fx_base.specs.Interval.{Interval, InOrder}
 use Rattle.fx_base.proofs.Order.{le_refl_f, add_le_f, sub_mono_f}
 use Rattle.fx_base.proofs.SearchLaws.{is_true_or_false}

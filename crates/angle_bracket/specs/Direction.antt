@@ -1,7 +1,7 @@
 -- The angles C and gamma of a direction, enclosed at every depth n. C is counted from the x axis towards y, less the lamp's turn.
 -- Gamma is counted from straight down.
 use Rattle.std.specs.Prelude.{ℕ, ◌+◌, ◌*◌, Bool, if◌then◌else◌, nat_le, nat_eq, ℤ, pos, int_lt, unsigned_abs}
-use Rattle.fx_base.specs.Fraction.{Fraction, ◌+ᶠ◌, ◌-ᶠ◌, whole, at_most}
+use Rattle.fx_base.specs.Fraction.{◌+ᶠ◌, ◌-ᶠ◌, whole, at_most}
 use Rattle.fx_base.specs.Interval.{Interval, exact}
 use Rattle.series_enclose.specs.Slant.{slant}
 

@@ -1,9 +1,7 @@
 -- Directions at depth 0, computed. The angle whose tangent is 1/2 is 26.57 degrees, and lies from 25 to 31 at that depth.
 use Rattle.std.specs.Prelude.{◌≡◌, ◌&&◌, ℕ, Bool, pos, negsuc, true, refl}
-use Rattle.fx_base.specs.Fraction.{◌+ᶠ◌, ◌-ᶠ◌, ◌*ᶠ◌, whole, ratio, at_most}
+use Rattle.fx_base.specs.Fraction.{whole, at_most}
 use Rattle.fx_base.specs.Interval.{Interval, exact}
-use Rattle.fx_base.specs.Search.{greatest, least}
-use Rattle.fx_base.specs.Root.{halved}
 use Rattle.series_enclose.specs.SeriesTests.{all_series}
 use Rattle.angle_bracket.specs.Direction.{less_angle, plus_angle, quarter_angle, in_quarter, angle_c, less_turn, brought, direction_c, direction_gamma}
 

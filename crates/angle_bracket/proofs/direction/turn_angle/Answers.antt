@@ -1,4 +1,4 @@
-use Rattle.std.proofs.Common.{◌+◌, ◌≡◌, ◌<◌, arith}
+use Rattle.std.proofs.Common.{◌+◌, ◌≡◌, arith}
 use Rattle.angle_bracket.specs.Angles.{between}
 use Rattle.angle_bracket.specs.Direction.{square}
 use Rattle.angle_bracket.proofs.Meeting.{same_quarter, squared, meets_nowhere, meets_c}

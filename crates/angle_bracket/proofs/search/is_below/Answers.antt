@@ -1,5 +1,4 @@
 use Rattle.std.proofs.Common.{arith, ◌*◌, ◌≤◌}
-use Rattle.series_enclose.proofs.Sizes.{cosine_below}
 use Rattle.angle_bracket.proofs.RowTest.{square_fits, product_fits, sine_fits, cosine_fits, test_below, test_above}
 use Rattle.angle_bracket.proofs.search.is_below.Goals as goal
 
