@@ -1,0 +1,7 @@
+pub mod Candidates
+pub mod Found
+pub mod Meeting
+pub mod Ordered
+pub mod RowTest
+pub mod Steps
+pub mod Tangents

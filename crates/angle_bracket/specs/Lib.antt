@@ -1,0 +1,4 @@
+pub mod Angles
+pub mod Direction
+pub mod DirectionTests
+pub mod Laws
