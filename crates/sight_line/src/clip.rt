@@ -15,7 +15,8 @@ fn is_less(a: Ratio, b: Ratio) -> bool
 /// The greater of two bounds from below, of which the second has a ratio.
 fn greater(bound: Ratio, other: Ratio) -> Ratio
     requires { 0 < other.under }
-    ensures { (r s : ℕ) → (r * result.over < s * result.under) ↔ ((r * bound.over < s * bound.under) × (r * other.over < s * other.under)) }
+    ensures { (r s : ℕ) → (r * result.over < s * result.under)
+        ↔ ((r * bound.over < s * bound.under) × (r * other.over < s * other.under)) }
 {
     if is_less(bound, other) { other } else { bound }
 }
@@ -23,7 +24,8 @@ fn greater(bound: Ratio, other: Ratio) -> Ratio
 /// The lesser of two bounds from above, of which the second isn't 0.
 fn lesser(bound: Ratio, other: Ratio) -> Ratio
     requires { 0 < other.over }
-    ensures { (r s : ℕ) → (s * result.under < r * result.over) ↔ ((s * bound.under < r * bound.over) × (s * other.under < r * other.over)) }
+    ensures { (r s : ℕ) → (s * result.under < r * result.over)
+        ↔ ((s * bound.under < r * bound.over) × (s * other.under < r * other.over)) }
 {
     if is_less(other, bound) { other } else { bound }
 }

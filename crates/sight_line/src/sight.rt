@@ -46,7 +46,9 @@ pub fn meets_block(block: &Block, from: Point, to: Point) -> bool
 pub fn blocked_by(blocks: &[Block], from: Point, to: Point) -> Option<usize>
     requires from { IsInReach from }
     requires to { IsInReach to }
-    ensures first { MatchOption result (NoneMet blocks.now (place_of from) (place_of to)) (λ k. IsFirstMet blocks.now (place_of from) (place_of to) k) }
+    ensures first { MatchOption result
+        (NoneMet blocks.now (place_of from) (place_of to))
+        (λ k. IsFirstMet blocks.now (place_of from) (place_of to) k) }
     ensures test { is_some result ≡ is_blocked blocks.now (place_of from) (place_of to) }
 {
     let from = coordinates(from);

@@ -14,7 +14,8 @@ pub struct Coordinates {
     ghost z_in_reach: { z ≤ 200000 },
 }
 
-/// A ratio of weights. A product of two such numbers is at most 4 * 10^10.
+/// The ratio of the weight at the end of a segment to the weight at its start, as `over` to `under`. A product of two such numbers is at
+/// most 4 * 10^10, which 32 bits don't hold.
 #[derive(Clone, Copy)]
 pub struct Ratio {
     pub over: u64,
@@ -23,7 +24,7 @@ pub struct Ratio {
     ghost small_under: { under ≤ 200000 },
 }
 
-/// The points whose ratio lies strictly between two bounds. `1 : 0` bounds nothing from below.
+/// The points whose ratio lies strictly between two bounds: `above` the first and `below` the second. Every ratio is below 1 to 0.
 #[derive(Clone, Copy)]
 pub struct Window {
     pub above: Ratio,
