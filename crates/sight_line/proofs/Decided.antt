@@ -50,10 +50,14 @@ six P a b c d e f pa pb pc pd pe pf =
     (All-cons P f [] pf (all_none P))))))
 
 each_side : (P : Side → Type 0) (p q : Place) (b : Block) →
-    P (low_side p.x q.x b.lo.x) → P (high_side p.x q.x b.hi.x) → P (low_side p.y q.y b.lo.y) → P (high_side p.y q.y b.hi.y) → P (low_side p.z q.z b.lo.z) → P (high_side p.z q.z b.hi.z) →
-    All P (sides p q b)
+    P (low_side p.x q.x b.lo.x) → P (high_side p.x q.x b.hi.x) →
+    P (low_side p.y q.y b.lo.y) → P (high_side p.y q.y b.hi.y) →
+    P (low_side p.z q.z b.lo.z) → P (high_side p.z q.z b.hi.z) → All P (sides p q b)
 each_side P p q b =
-    six P (low_side p.x q.x b.lo.x) (high_side p.x q.x b.hi.x) (low_side p.y q.y b.lo.y) (high_side p.y q.y b.hi.y) (low_side p.z q.z b.lo.z) (high_side p.z q.z b.hi.z)
+    six P
+    (low_side p.x q.x b.lo.x) (high_side p.x q.x b.hi.x)
+    (low_side p.y q.y b.lo.y) (high_side p.y q.y b.hi.y)
+    (low_side p.z q.z b.lo.z) (high_side p.z q.z b.hi.z)
 
 low_apart : (p q lo : ℕ) → IsApart (low_side p q lo)
 low_apart p q lo = record { p = λ l. omega arith; q = λ l. omega arith }
@@ -63,19 +67,24 @@ high_apart p q hi = record { p = λ l. omega arith; q = λ l. omega arith }
 
 sides_apart : (p q : Place) (b : Block) → All (λ f. IsApart f) (sides p q b)
 sides_apart p q b =
-    each_side (λ f. IsApart f) p q b (low_apart p.x q.x b.lo.x) (high_apart p.x q.x b.hi.x) (low_apart p.y q.y b.lo.y) (high_apart p.y q.y b.hi.y) (low_apart p.z q.z b.lo.z) (high_apart p.z q.z b.hi.z)
+    each_side (λ f. IsApart f) p q b
+    (low_apart p.x q.x b.lo.x) (high_apart p.x q.x b.hi.x)
+    (low_apart p.y q.y b.lo.y) (high_apart p.y q.y b.hi.y)
+    (low_apart p.z q.z b.lo.z) (high_apart p.z q.z b.hi.z)
 
 -- a point inside each face lies in the open inside of the box
 inside_meets : (p q : Place) (b : Block) → Inside (sides p q b) → MeetsBox p q b
 inside_meets p q b i =
     let d : Side = low_side 0 0 0 in
+    let low = λ (u v lo : ℕ). (above_plane i.r i.s u v (2 * lo)).0 in
+    let high = λ (u v hi : ℕ). (below_plane i.r i.s u v (2 * hi)).0 in
     record {
       r = i.r;
       s = i.s;
       some = i.some;
-      x = ((above_plane i.r i.s p.x q.x (2 * b.lo.x)).0 (i.each 0 d (lit< tt)).at, (below_plane i.r i.s p.x q.x (2 * b.hi.x)).0 (i.each 1 d (lit< tt)).at);
-      y = ((above_plane i.r i.s p.y q.y (2 * b.lo.y)).0 (i.each 2 d (lit< tt)).at, (below_plane i.r i.s p.y q.y (2 * b.hi.y)).0 (i.each 3 d (lit< tt)).at);
-      z = ((above_plane i.r i.s p.z q.z (2 * b.lo.z)).0 (i.each 4 d (lit< tt)).at, (below_plane i.r i.s p.z q.z (2 * b.hi.z)).0 (i.each 5 d (lit< tt)).at);
+      x = (low p.x q.x b.lo.x (i.each 0 d (lit< tt)).at, high p.x q.x b.hi.x (i.each 1 d (lit< tt)).at);
+      y = (low p.y q.y b.lo.y (i.each 2 d (lit< tt)).at, high p.y q.y b.hi.y (i.each 3 d (lit< tt)).at);
+      z = (low p.z q.z b.lo.z (i.each 4 d (lit< tt)).at, high p.z q.z b.hi.z (i.each 5 d (lit< tt)).at);
     }
 
 meets_inside : (p q : Place) (b : Block) (m : MeetsBox p q b) → All (λ f. IsAt m.r m.s f) (sides p q b)
@@ -90,17 +99,25 @@ meets_inside p q b m =
 
 -- ---- the law
 
-each_pair : (fs : List Side) → list_all (λ f. list_all (λ g. enters_before f g) fs) fs ≡ true → All (λ f. All (λ g. IsBefore f g) fs) fs
-each_pair fs h = λ k d l j e i.
-    is_before _ _ (AllPass-from_list_all (λ g. enters_before (get_or fs k d) g) fs (AllPass-from_list_all (λ f. list_all (λ g. enters_before f g) fs) fs h k d l) j e i)
+-- a test of each pair of faces, in the form of `meets_box`
+abbrev each_enters : List Side → Bool
+each_enters fs = list_all (λ f. list_all (λ g. enters_before f g) fs) fs
 
-from_pairs : (fs : List Side) → All (λ f. All (λ g. IsBefore f g) fs) fs → list_all (λ f. list_all (λ g. enters_before f g) fs) fs ≡ true
+from_test : (fs : List Side) → each_enters fs ≡ true → All (λ f. All (λ g. IsBefore f g) fs) fs
+from_test fs h = λ k d l j e i.
+    let row = AllPass-from_list_all (λ f. list_all (λ g. enters_before f g) fs) fs h k d l in
+    is_before _ _ (AllPass-from_list_all (λ g. enters_before (get_or fs k d) g) fs row j e i)
+
+from_pairs : (fs : List Side) → All (λ f. All (λ g. IsBefore f g) fs) fs → each_enters fs ≡ true
 from_pairs fs h =
-    list_all-from_AllPass (λ f. list_all (λ g. enters_before f g) fs) fs (λ k d l. list_all-from_AllPass (λ g. enters_before (get_or fs k d) g) fs (λ j e i. passes _ _ (h k d l j e i)))
+    list_all-from_AllPass (λ f. list_all (λ g. enters_before f g) fs) fs (λ k d l.
+    list_all-from_AllPass (λ g. enters_before (get_or fs k d) g) fs (λ j e i. passes _ _ (h k d l j e i)))
 
 pub decided : (p q : Place) (b : Block) → IsTrue (meets_box p q b) ↔ MeetsBox p q b
 unfolding meets_box
 decided p q b = (
-  λ t. inside_meets p q b (inside_each (sides p q b) (sides_apart p q b) (each_pair (sides p q b) t)),
-  λ m. from_pairs (sides p q b) (λ k d l j e i. before_from m.r m.s _ _ (meets_inside p q b m k d l) (meets_inside p q b m j e i)),
+  λ t. inside_meets p q b (inside_each (sides p q b) (sides_apart p q b) (from_test (sides p q b) t)),
+  λ m.
+      let at = meets_inside p q b m in
+      from_pairs (sides p q b) (λ k d l j e i. before_from m.r m.s _ _ (at k d l) (at j e i)),
 )

@@ -7,13 +7,16 @@ use Rattle.room_layout.specs.declared.room.Block.{Block}
 use Rattle.sight_line.specs.Sight.{DividesWithin, MeetsBox}
 use Rattle.sight_line.specs.Clip.{IsWithin}
 
-above_still : (n r s p q l : ℕ) → (r + s) * l < r * p + s * q → 2 * l < n → (n * r + 1 + (n * s + 1)) * l < (n * r + 1) * p + (n * s + 1) * q
+above_still : (n r s p q l : ℕ) → (r + s) * l < r * p + s * q → 2 * l < n →
+    (n * r + 1 + (n * s + 1)) * l < (n * r + 1) * p + (n * s + 1) * q
 above_still n r s p q l h more = omega (arith, mul-le-mul_left n h)
 
-below_still : (n r s p q l : ℕ) → r * p + s * q < (r + s) * l → p + q < n → (n * r + 1) * p + (n * s + 1) * q < (n * r + 1 + (n * s + 1)) * l
+below_still : (n r s p q l : ℕ) → r * p + s * q < (r + s) * l → p + q < n →
+    (n * r + 1) * p + (n * s + 1) * q < (n * r + 1 + (n * s + 1)) * l
 below_still n r s p q l h more = omega (arith, mul-le-mul_left n h)
 
-within_still : (n r s p q lo hi : ℕ) → DividesWithin r s p q lo hi → 4 * lo + p + q < n → DividesWithin (n * r + 1) (n * s + 1) p q lo hi
+within_still : (n r s p q lo hi : ℕ) → DividesWithin r s p q lo hi → 4 * lo + p + q < n →
+    DividesWithin (n * r + 1) (n * s + 1) p q lo hi
 within_still n r s p q lo hi h more =
     (above_still n r s p q (2 * lo) h.0 (omega arith), below_still n r s p q (2 * hi) h.1 (omega arith))
 

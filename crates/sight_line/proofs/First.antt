@@ -11,16 +11,24 @@ pub none_yet : (p q : Place) → is_blocked [] p q ≡ false
 unfolding is_blocked
 none_yet p q = refl
 
-pub none_more : (blocks : List Block) (p q : Place) (k : ℕ) (d : Block) → k < length blocks → is_blocked (take k blocks) p q ≡ false → meets_box p q (get_or blocks k d) ≡ false → is_blocked (take (k + 1) blocks) p q ≡ false
+pub none_more : (blocks : List Block) (p q : Place) (k : ℕ) (d : Block) → k < length blocks → is_blocked (take k blocks) p q ≡ false →
+    meets_box p q (get_or blocks k d) ≡ false → is_blocked (take (k + 1) blocks) p q ≡ false
 unfolding is_blocked
 none_more blocks p q k d l before here = rw (list_any_more (λ b. meets_box p q b) blocks k d l, before, here) refl
 
-pub one_met : (blocks : List Block) (p q : Place) (k : ℕ) (d : Block) → k < length blocks → meets_box p q (get_or blocks k d) ≡ true → is_blocked blocks p q ≡ true
+pub one_met : (blocks : List Block) (p q : Place) (k : ℕ) (d : Block) → k < length blocks → meets_box p q (get_or blocks k d) ≡ true →
+    is_blocked blocks p q ≡ true
 unfolding is_blocked
 one_met blocks p q k d l here = list_any_at (λ b. meets_box p q b) blocks k d l here
 
 pub none_met : (blocks : List Block) (p q : Place) → is_blocked blocks p q ≡ false → NoneMet blocks p q
-none_met blocks p q none = λ k d l m. let t = one_met blocks p q k d l ((decided p q (get_or blocks k d)).1 m) in cc
+none_met blocks p q none = λ k d l m.
+    let t = one_met blocks p q k d l ((decided p q (get_or blocks k d)).1 m) in
+    cc
 
-pub first_met : (blocks : List Block) (p q : Place) (k : ℕ) (d : Block) → k < length blocks → is_blocked (take k blocks) p q ≡ false → MeetsBox p q (get_or blocks k d) → IsFirstMet blocks p q k
-first_met blocks p q k d l before here = record { met = rw (slice_get-get_or blocks k d l) here; none_before = none_met (take k blocks) p q before }
+pub first_met : (blocks : List Block) (p q : Place) (k : ℕ) (d : Block) → k < length blocks → is_blocked (take k blocks) p q ≡ false →
+    MeetsBox p q (get_or blocks k d) → IsFirstMet blocks p q k
+first_met blocks p q k d l before here = record {
+  met = rw (slice_get-get_or blocks k d l) here;
+  none_before = none_met (take k blocks) p q before;
+}

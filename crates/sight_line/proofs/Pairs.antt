@@ -41,7 +41,11 @@ reach : (pi po qi qo : ℕ) → (pi ≡ 0 → qi ≡ 0 → po * qo < pi * qi) �
 reach pi po zero qo b e = let h : po * qo < pi * 0 = b e refl in omega arith
 reach pi po (suc qi) qo b e = omega arith
 
--- a ratio o : u that is at least each at which the segment comes inside one of the faces fs, and below each at which it leaves one of all
+reaches : (f : Side) → IsBefore f f → f.p_in ≡ 0 → 0 < f.q_in
+reaches f b e = reach f.p_in f.p_out f.q_in f.q_out b.before e
+
+-- a ratio o : u that is at least each at which the segment comes inside one of the faces fs, and below each at which it leaves one of
+-- all
 record Entry (fs all : List Side) : Type 0 where
   o : ℕ
   u : ℕ
@@ -64,11 +68,12 @@ keep all fs f e h = record {
 }
 
 -- where it is less
-raise : (all fs : List Side) (f : Side) (e : Entry fs all) → f.p_in ≡ 0 → IsBefore f f → All (λ g. IsBefore f g) all → e.o * f.q_in < f.p_out * e.u → Entry (f ∷ fs) all
+raise : (all fs : List Side) (f : Side) (e : Entry fs all) → f.p_in ≡ 0 → IsBefore f f → All (λ g. IsBefore f g) all →
+    e.o * f.q_in < f.p_out * e.u → Entry (f ∷ fs) all
 raise all fs f e z own each l = record {
   o = f.p_out;
   u = f.q_in;
-  positive = reach f.p_in f.p_out f.q_in f.q_out own.before z;
+  positive = reaches f own z;
   greatest = All-cons (λ g. g.p_in ≡ 0 → g.p_out * f.q_in ≤ f.p_out * g.q_in) f fs (λ y. omega arith)
       (λ k d h y. at_least_more (get_or fs k d).p_out (get_or fs k d).q_in e.o e.u f.p_out f.q_in (e.greatest k d h y) l e.positive);
   before = λ k d h y. (each k d h).before z y;
@@ -84,24 +89,29 @@ with_face all fs f own each e =
       ]
     ]
 
-leaves_later : (pi po qi qo : ℕ) → (pi ≡ 0 → qi ≡ 0 → po * qo < pi * qi) → qi ≡ 0 → 0 * qo < pi * 1
-leaves_later zero po qi qo b e = let h : po * qo < 0 * qi = b refl e in omega arith
-leaves_later (suc pi) po qi qo b e = omega arith
+stays : (pi po qi qo : ℕ) → (pi ≡ 0 → qi ≡ 0 → po * qo < pi * qi) → qi ≡ 0 → 0 * qo < pi * 1
+stays zero po qi qo b e = let h : po * qo < 0 * qi = b refl e in omega arith
+stays (suc pi) po qi qo b e = omega arith
 
-entry : (all fs : List Side) → All (λ g. IsBefore g g) all → All (λ f. All (λ g. IsBefore f g) all) fs → All (λ f. IsBefore f f) fs → Entry fs all
+leaves_later : (g : Side) → IsBefore g g → g.q_in ≡ 0 → 0 * g.q_out < g.p_in * 1
+leaves_later g b e = stays g.p_in g.p_out g.q_in g.q_out b.before e
+
+entry : (all fs : List Side) → All (λ g. IsBefore g g) all → All (λ f. All (λ g. IsBefore f g) all) fs → All (λ f. IsBefore f f) fs →
+    Entry fs all
 entry all [] own each ones = record {
   o = 0;
   u = 1;
   positive = lit< tt;
   greatest = λ k d l. absurd (omega arith);
-  before = λ k d l y. leaves_later (get_or all k d).p_in (get_or all k d).p_out (get_or all k d).q_in (get_or all k d).q_out (own k d l).before y;
+  before = λ k d l y. leaves_later (get_or all k d) (own k d l) y;
 }
 entry all (f ∷ fs) own each ones =
-    with_face all fs f (ones 0 f (omega arith)) (each 0 f (omega arith)) (entry all fs own (λ k d l. each (suc k) d (omega arith)) (λ k d l. ones (suc k) d (omega arith)))
+    let rest : Entry fs all = entry all fs own (λ k d l. each (suc k) d (omega arith)) (λ k d l. ones (suc k) d (omega arith)) in
+    with_face all fs f (ones 0 f (omega arith)) (each 0 f (omega arith)) rest
 
 -- a point just past the ratio o : u lies inside a face that the segment comes inside there or sooner, or leaves later
-just_past : (n o u pi po qi qo : ℕ) → (0 < pi → po ≡ 0) → (0 < qi → qo ≡ 0) → (pi ≡ 0 → 0 < qi) → (pi ≡ 0 → po * u ≤ o * qi) → (qi ≡ 0 → o * qo < pi * u) → qo < n →
-    n * u * po + (n * o + 1) * qo < n * u * pi + (n * o + 1) * qi
+just_past : (n o u pi po qi qo : ℕ) → (0 < pi → po ≡ 0) → (0 < qi → qo ≡ 0) → (pi ≡ 0 → 0 < qi) → (pi ≡ 0 → po * u ≤ o * qi) →
+    (qi ≡ 0 → o * qo < pi * u) → qo < n → n * u * po + (n * o + 1) * qo < n * u * pi + (n * o + 1) * qi
 just_past n o u zero po qi qo p q own enters leaves more =
     let h : po * u ≤ o * qi = enters refl in
     let z : qo ≡ 0 = q (own refl) in
@@ -124,7 +134,8 @@ most_out (f ∷ fs) = f.q_out + most_out fs
 below_most : (fs : List Side) → All (λ f. f.q_out ≤ most_out fs) fs
 unfolding most_out
 below_most [] = λ k d l. absurd (omega arith)
-below_most (f ∷ fs) = All-cons (λ g. g.q_out ≤ f.q_out + most_out fs) f fs (omega arith) (λ k d l. let h = below_most fs k d l in omega arith)
+below_most (f ∷ fs) =
+    All-cons (λ g. g.q_out ≤ f.q_out + most_out fs) f fs (omega arith) (λ k d l. let h = below_most fs k d l in omega arith)
 
 -- the weights of a point inside each face
 pub record Inside (all : List Side) : Type 0 where
@@ -138,12 +149,13 @@ past_entry all apart own e = record {
   r = suc (most_out all) * e.u;
   s = suc (most_out all) * e.o + 1;
   some = omega arith;
-  each = λ k d l. record {
-    at = just_past (suc (most_out all)) e.o e.u (get_or all k d).p_in (get_or all k d).p_out (get_or all k d).q_in (get_or all k d).q_out
-        (apart k d l).p (apart k d l).q
-        (reach (get_or all k d).p_in (get_or all k d).p_out (get_or all k d).q_in (get_or all k d).q_out (own k d l).before)
-        (e.greatest k d l) (e.before k d l) (let h = below_most all k d l in omega arith);
-  };
+  each = λ k d l.
+      let f : Side = get_or all k d in
+      let few = below_most all k d l in
+      record {
+        at = just_past (suc (most_out all)) e.o e.u f.p_in f.p_out f.q_in f.q_out (apart k d l).p (apart k d l).q (reaches f (own k d l))
+            (e.greatest k d l) (e.before k d l) (omega arith);
+      };
 }
 
 pub inside_each : (all : List Side) → All (λ f. IsApart f) all → All (λ f. All (λ g. IsBefore f g) all) all → Inside all

@@ -15,5 +15,8 @@ returns c = λ r s. (
       let y = (c.in_ok-y.ensures r s).0 z.0 in
       let x = (c.in_ok-x.ensures r s).0 y.0 in
       record { from = omega (arith, x.0.1); to = omega (arith, x.0.0); x = x.1; y = y.1; z = z.1 },
-  λ w. (c.between_planes-3.ensures r s).1 ((c.in_ok-y.ensures r s).1 ((c.in_ok-x.ensures r s).1 ((omega (arith, w.to), omega (arith, w.from)), w.x), w.y), w.z),
+  λ w.
+      let x = (c.in_ok-x.ensures r s).1 ((omega (arith, w.to), omega (arith, w.from)), w.x) in
+      let y = (c.in_ok-y.ensures r s).1 (x, w.y) in
+      (c.between_planes-3.ensures r s).1 (y, w.z),
 )

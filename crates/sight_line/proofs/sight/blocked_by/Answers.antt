@@ -21,4 +21,5 @@ returns-then-is_met-clause-test c =
 
 pub returns-clause-first : goal.returns-clause-first
 returns-clause-first c =
-    rw (← c.coordinates-from.ensures, ← c.coordinates-to.ensures) (none_met _ _ _ (let e = take_all _ _ c.loop-k-test.false in rw e at c.loop-k.invariant))
+    let whole = take_all _ _ c.loop-k-test.false in
+    rw (← c.coordinates-from.ensures, ← c.coordinates-to.ensures) (none_met _ _ _ (rw whole at c.loop-k.invariant))
