@@ -1,0 +1,6 @@
+pub mod Ratios
+pub mod Planes
+pub mod Ends
+pub mod Pairs
+pub mod Decided
+pub mod First
