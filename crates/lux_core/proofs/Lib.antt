@@ -1,6 +1,7 @@
 pub mod Complete
 pub mod Directs
 pub mod Falls
+pub mod GridOrder
 pub mod Grids
 pub mod Lamps
 pub mod Leasts

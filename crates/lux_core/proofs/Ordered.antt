@@ -23,7 +23,7 @@ none_by_nothing : (n : ℕ) (c : Fraction) → ratio n 0 ≤ᶠ c
 unfolding ratio
 none_by_nothing n c = record { cross = omega arith }
 
-by_nothing : (a b c : Fraction) → b.num ≡ 0 → (a /ᶠ b) ≤ᶠ c
+pub by_nothing : (a b c : Fraction) → b.num ≡ 0 → (a /ᶠ b) ≤ᶠ c
 unfolding ◌/ᶠ◌
 by_nothing a b c e =
     let f : 0 ≡ a.den * b.num = rw e (omega arith) in

@@ -84,7 +84,7 @@ averages_order vs covered same some each =
     let three = mean_below vs covered high same some (λ g d l o. ticks_le (upper_end (slice_index_or vs g no_point)) (upper_end (slice_index_or vs g d)) (default_same upper_end vs g d l)) in
     ticks_back (average_low vs) (average_high vs) (le_trans_f one (le_trans_f two three))
 
-at_test : (b : Bool) (x y a : Fraction) → (b ≡ true → a ≤ᶠ x) → (b ≡ false → a ≤ᶠ y) → a ≤ᶠ (if b then x else y)
+pub at_test : (b : Bool) (x y a : Fraction) → (b ≡ true → a ≤ᶠ x) → (b ≡ false → a ≤ᶠ y) → a ≤ᶠ (if b then x else y)
 at_test true x y a f g = f refl
 at_test false x y a f g = g refl
 

@@ -1,8 +1,8 @@
 -- The definitions, computed: a lamp of 5,000 cd in the ceiling of a room of 6 by 6 by 3 m, above the one point in the middle of its floor.
-use Rattle.std.specs.Prelude.{ℕ, ◌≡◌, ◌+◌, ◌==◌, ◌&&◌, ◌∷◌, [], List, ◌++◌, true, false, refl, codes, Option, Some, None}
+use Rattle.std.specs.Prelude.{◌≡◌, ◌+◌, ◌==◌, ◌&&◌, ◌∷◌, [], true, refl, codes, Some, None}
 use Rattle.std.specs.Fmt.{digits}
-use Rattle.fx_base.specs.Fraction.{Fraction, at_most, ratio, whole, half_power, ◌+ᶠ◌, ◌-ᶠ◌, ◌*ᶠ◌, ◌/ᶠ◌, lesser, sum_to}
-use Rattle.fx_base.specs.Interval.{Interval, exact}
+use Rattle.fx_base.specs.Fraction.{at_most, ratio, whole, half_power, ◌+ᶠ◌, ◌-ᶠ◌, ◌*ᶠ◌, ◌/ᶠ◌, lesser, sum_to}
+use Rattle.fx_base.specs.Interval.{exact}
 use Rattle.fx_base.specs.Root.{halved, root}
 use Rattle.fx_base.specs.Search.{root_digits, whole_root}
 use Rattle.interval_system.specs.Values.{Grid, open_count, open_sum, mean, least, average, uniformity}
@@ -12,8 +12,8 @@ use Rattle.room_layout.specs.declared.room.Shine.TheVariants.{Even}
 use Rattle.lux_core.specs.Answers.{total_candela}
 use Rattle.lux_core.specs.Commands.{report_name}
 use Rattle.lux_core.specs.Headline.{least_end}
-use Rattle.lux_core.specs.Light.{falloff, fallen, share_of, loosened, lamp_place, lamp_light, loose_lamp_light, light_of_first, loose_light_of_first}
-use Rattle.lux_core.specs.Printed.{Printed, Report, point_lines, report_text}
+use Rattle.lux_core.specs.Light.{falloff, share_of, loosened, lamp_place, lamp_light, loose_lamp_light, light_of_first, loose_light_of_first}
+use Rattle.lux_core.specs.Printed.{Printed, point_lines, report_text}
 use Rattle.lux_core.specs.Scene.{lit, loose}
 
 unfoldable pub everything : Unit {0}
