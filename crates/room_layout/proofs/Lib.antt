@@ -8,3 +8,4 @@ pub mod AcceptsRoom
 pub mod Plain
 pub mod Document
 pub mod Reordered
+pub mod ReorderedTests

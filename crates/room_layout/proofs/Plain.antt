@@ -8,18 +8,16 @@ use Rattle.room_layout.specs.declared.fault.RoomFault.{RoomFault}
 use Rattle.room_layout.specs.declared.fault.RoomFault.TheVariants as fault
 use Rattle.room_layout.specs.declared.fault.Spot.{Spot}
 use Rattle.room_layout.specs.declared.geometry.Size.{Size}
-use Rattle.room_layout.specs.declared.room.Block.{Block}
 use Rattle.room_layout.specs.declared.room.Lamp.{Lamp}
 use Rattle.room_layout.specs.declared.room.Shine.{Shine}
 use Rattle.room_layout.specs.declared.room.Shine.TheVariants.{Even}
 use Rattle.room_layout.specs.declared.room.FileUse.{FileUse}
 use Rattle.room_layout.specs.declared.room.Limits.{Limits}
 use Rattle.room_layout.specs.declared.room.Room.{Room}
-use Rattle.room_layout.specs.declared.parts.Shell.{Shell}
 use Rattle.room_layout.specs.declared.parts.Lit.{Lit}
-use Rattle.room_layout.specs.Checks.{◌>>=◌, spot, required, optional, where_given, kind, number, numbers, name_text, array, elements, items_list, has_only, table_with}
-use Rattle.room_layout.specs.Served.{unserved_of_document, unserved_of_room, unserved_of_lamp, has_any, has_any_in, has_any_in_each, is_unserved}
-use Rattle.room_layout.specs.Layout.{room_keys, size_from, reflects_from, shell_of, blocks_from, blocks_of, lamp_keys, lamp_from, shine_of, lamp_of, lamps_from, lamps_of, limits_in, limits_of, document_of, built_room_of_document, built_room_of}
+use Rattle.room_layout.specs.Checks.{◌>>=◌, spot, optional, where_given, kind, number, numbers, name_text, array, elements, items_list, has_only, table_with}
+use Rattle.room_layout.specs.Served.{unserved_of_document, unserved_of_lamp, has_any, has_any_in, has_any_in_each, is_unserved}
+use Rattle.room_layout.specs.Layout.{lamp_keys, lamp_from, shine_of, lamp_of, lamps_from, lamps_of, limits_in, limits_of, document_of, built_room_of_document, built_room_of}
 use Rattle.room_layout.specs.Accepted.{IsPlainLamp, IsPlain}
 use Rattle.room_layout.proofs.Ranges.{bind_ok, ok_same}
 use Rattle.room_layout.proofs.AcceptsLamps.{All-none, All-cons, checked_accepted, HasLampParts, lamp_parts, lamp_of_parts}
@@ -73,35 +71,7 @@ where_not_given : {A : Type 0} (s : Spot) (check : Spot → Data → Result A Ro
 where_not_given s check None x none e = ok_same None x e
 where_not_given s check (Some d) x none e = absurd (cc)
 
--- ---- the room's own table
-
-shell_in : (o : Option Data) (s : Shell) (room : Members) → required (spot key.Room 0) (table_with room_keys) o ≡ Ok room → option_map_or (has_any_in unserved_of_room) o false ≡ false → LacksAll unserved_of_room room
-shell_in None s room e without = absurd (cc)
-shell_in (Some d) s room e without = lacks_in unserved_of_room room_keys (spot key.Room 0) d room e without
-
-pub shell_plain : (document : Members) (s : Shell) → shell_of document ≡ Ok s → option_map_or (has_any_in unserved_of_room) (get_member (codes "room") document) false ≡ false
-    → (reflects_from (0 ∷ 0 ∷ 0 ∷ 0 ∷ 0 ∷ 0 ∷ []) ≡ s.reflect) × (600 ≡ s.patch)
-unfolding shell_of
-shell_plain document s e without =
-    let (room, room_is, e1) = bind_ok (required (spot key.Room 0) (table_with room_keys) (get_member (codes "room") document)) _ s e in
-    let (size, _, e2) = bind_ok (required (spot key.RoomSize 0) (numbers 3 500 50000) (get_member (codes "size") room)) _ s e1 in
-    let (reflect, reflected, e3) = bind_ok (optional (0 ∷ 0 ∷ 0 ∷ 0 ∷ 0 ∷ 0 ∷ []) (spot key.RoomReflect 0) (numbers 6 0 950) (get_member (codes "reflect") room)) _ s e2 in
-    let (patch, patched, e4) = bind_ok (optional 600 (spot key.RoomPatch 0) (number 50 50000) (get_member (codes "patch") room)) _ s e3 in
-    let same : record { size = size_from size; reflect = reflects_from reflect; patch = patch } ≡ s = ok_same _ s e4 in
-    let lacks = shell_in (get_member (codes "room") document) s room room_is without in
-    let no_reflect = optional_default _ (spot key.RoomReflect 0) (numbers 6 0 950) (get_member (codes "reflect") room) reflect lacks.0 reflected in
-    let no_patch = optional_default 600 (spot key.RoomPatch 0) (number 50 50000) (get_member (codes "patch") room) patch lacks.1.0 patched in
-    (ap reflects_from no_reflect ∙ ap (λ (x : Shell). x.reflect) same, no_patch ∙ ap (λ (x : Shell). x.patch) same)
-
--- ---- boxes and limits
-
-pub blocks_plain : (room : Size) (document : Members) (bs : List Block) → get_member (codes "box") document ≡ None → blocks_of room document ≡ Ok bs → [] ≡ bs
-unfolding blocks_of
-blocks_plain room document bs none e =
-    let (ds, given, e1) = bind_ok (optional [] (spot key.Box 0) (elements 64) (get_member (codes "box") document)) (blocks_from room 0) bs e in
-    let same : [] ≡ ds = optional_default [] (spot key.Box 0) (elements 64) (get_member (codes "box") document) ds none given in
-    let e2 : blocks_from room 0 [] ≡ Ok bs = subst (λ l. blocks_from room 0 l ≡ Ok bs) (sym same) e1 in
-    ok_same [] bs e2
+-- ---- limits
 
 pub limits_plain : (document : Members) (l : Limits) → get_member (codes "limits") document ≡ None → limits_of document ≡ Ok l → record { average = None; uniformity = None } ≡ l
 unfolding limits_of
@@ -195,29 +165,23 @@ document_lamps_plain room document r without e =
 
 record LacksUnserved (document : Members) : Type 0 where
   of_document : LacksAll unserved_of_document document
-  of_room : option_map_or (has_any_in unserved_of_room) (get_member (codes "room") document) false ≡ false
   of_lamps : option_map_or (has_any_in_each unserved_of_lamp) (get_member (codes "lamp") document) false ≡ false
 
 lacks_unserved : (document : Members) → is_unserved document ≡ false → LacksUnserved document
 unfolding is_unserved
 lacks_unserved document e =
-    let (first_two, lamps) = or_false (has_any unserved_of_document document || option_map_or (has_any_in unserved_of_room) (get_member (codes "room") document) false) _ e in
-    let (top, room) = or_false (has_any unserved_of_document document) _ first_two in
-    record { of_document = lacks_all unserved_of_document document top; of_room = room; of_lamps = lamps }
+    let (top, lamps) = or_false (has_any unserved_of_document document) _ e in
+    record { of_document = lacks_all unserved_of_document document top; of_lamps = lamps }
 
 pub document_plain : (document : Members) (r : Room) → built_room_of_document document ≡ Ok r → IsPlain r
 document_plain document r e =
     let (whole, served) = built_part document r e in
     let parts = room_parts document r whole in
     let lacks = lacks_unserved document served in
-    let shell = shell_plain document parts.shell parts.shell_is lacks.of_room in
     let lamps = document_lamps_plain parts.shell.size document (record { lamps = r.lamps; files = r.files }) lacks.of_lamps parts.lamps_are in
     record {
-      reflect = sym (shell.0 ∙ parts.reflect_is);
-      patch = sym (shell.1 ∙ parts.patch_is);
-      blocks = sym (blocks_plain parts.shell.size document r.blocks lacks.of_document.0 parts.blocks_are);
       files = lamps.1;
-      limits = sym (limits_plain document r.limits lacks.of_document.1.0 parts.limits_are);
+      limits = sym (limits_plain document r.limits lacks.of_document.0 parts.limits_are);
       each_lamp = lamps.0;
     }
 

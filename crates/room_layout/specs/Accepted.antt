@@ -105,9 +105,6 @@ pub record IsPlainLamp (l : Lamp) : Type 0 where
 
 -- a room with what the keys that aren't served yet have where they aren't given
 pub record IsPlain (r : Room) : Type 0 where
-  pub reflect : r.reflect ≡ record { floor = 0; ceiling = 0; x0 = 0; x1 = 0; y0 = 0; y1 = 0 }
-  pub patch : r.patch ≡ 600
-  pub blocks : r.blocks ≡ []
   pub files : r.files ≡ []
   pub limits : r.limits ≡ record { average = None; uniformity = None }
   pub each_lamp : All IsPlainLamp r.lamps

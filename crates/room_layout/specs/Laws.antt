@@ -1,9 +1,11 @@
--- What holds of every room that the layout gives.
-use Rattle.std.specs.Prelude.{◌≡◌, ℕ, List, Ok}
+-- What holds of every room that the layout gives, and of the order in which a document has its keys.
+use Rattle.std.specs.Prelude.{◌≡◌, ℕ, List, Option, Some, None, Ok}
 use Rattle.room_layout.specs.declared.room.Room.{Room}
-use Rattle.toml.specs.Data.{Members, get_member}
-use Rattle.room_layout.specs.Layout.{room_of_document, room_of, built_room_of}
+use Rattle.toml.specs.Data.{Data, array, table, Items, no_items, item, Members, get_member}
+use Rattle.room_layout.specs.Layout.{room_of_document, room_of, built_room_of_document, built_room_of}
 use Rattle.room_layout.specs.Accepted.{IsAccepted, IsPlain}
+
+-- ---- the rooms
 
 -- a room that the whole layout gives is within every range and limit
 abbrev pub GivesAccepted : Type 0
@@ -17,10 +19,30 @@ ServesPart = (bytes : List ℕ) (r : Room) → built_room_of bytes ≡ Ok r → 
 abbrev pub GivesPlain : Type 0
 GivesPlain = (bytes : List ℕ) (r : Room) → built_room_of bytes ≡ Ok r → IsPlain r
 
--- two tables with the same value at each key, in whatever order they have them
-abbrev pub HasSameValues : Members → Members → Type 0
-HasSameValues a b = (k : List ℕ) → get_member k a ≡ get_member k b
+-- ---- the order of keys
 
--- documents that differ only in the order of their keys give the same answer
+mutual
+  -- two values that are the same but for the order of keys, at every level
+  pub data IsReordered : Data → Data → Type 0 where
+    same : {d : Data} → IsReordered d d
+    arrays : {a b : Items} → AreItemsReordered a b → IsReordered (array a) (array b)
+    tables : {a b : Members} → ((k : List ℕ) → IsReorderedIfGiven (get_member k a) (get_member k b)) → IsReordered (table a) (table b)
+
+  -- what two tables have at a key: neither has it, or both have, and the values are the same but for the order of keys
+  pub data IsReorderedIfGiven : Option Data → Option Data → Type 0 where
+    neither : IsReorderedIfGiven None None
+    both : {d e : Data} → IsReordered d e → IsReorderedIfGiven (Some d) (Some e)
+
+  -- as many items, and each in turn the same but for the order of keys
+  pub data AreItemsReordered : Items → Items → Type 0 where
+    none : AreItemsReordered no_items no_items
+    next : {d e : Data} {a b : Items} → IsReordered d e → AreItemsReordered a b → AreItemsReordered (item d a) (item e b)
+
+-- two tables that are the same but for the order of keys, at every level
+abbrev pub AreReordered : Members → Members → Type 0
+AreReordered a b = (k : List ℕ) → IsReorderedIfGiven (get_member k a) (get_member k b)
+
+-- documents that are the same but for the order of keys, at every level, give the same room or the same fault, by the whole layout and by
+-- the part that is served
 abbrev pub IgnoresOrder : Type 0
-IgnoresOrder = (a b : Members) → HasSameValues a b → room_of_document a ≡ room_of_document b
+IgnoresOrder = (a b : Members) → AreReordered a b → (room_of_document a ≡ room_of_document b) × (built_room_of_document a ≡ built_room_of_document b)

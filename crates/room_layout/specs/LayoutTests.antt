@@ -7,7 +7,7 @@ use Rattle.room_layout.specs.declared.fault.Key.TheVariants as key
 use Rattle.room_layout.specs.declared.fault.RoomFault.TheVariants as fault
 use Rattle.room_layout.specs.declared.room.Room.{Room}
 use Rattle.room_layout.specs.declared.room.Shine.TheVariants.{Even}
-use Rattle.room_layout.specs.Layout.{document_of, shell_of, blocks_of, shine_of, checked_lamp, lamp_of, lamps_of, task_of, limits_of, version_of, room_of_document, room_of, built_room_of_document, built_room_of}
+use Rattle.room_layout.specs.Layout.{document_of, shell_of, block_of, blocks_of, shine_of, checked_lamp, lamp_of, lamps_of, task_of, limits_in, limits_of, version_of, room_of_document, room_of, built_room_of_document, built_room_of}
 use Rattle.room_layout.specs.Served.{is_unserved}
 
 no_version : room_of (codes "room = 1") ≡ Err fault.Version
@@ -71,9 +71,43 @@ lamp_outside_first : built_room_of (line (codes "version = 1") (line (codes "[ro
 unfolding is_utf8 chars toml_on_literals built_room_of built_room_of_document is_unserved document_of room_of_document version_of shell_of blocks_of lamps_of lamp_of shine_of checked_lamp task_of limits_of
 lamp_outside_first = refl
 
-box_not_built : built_room_of (line (codes "box = []") hall_text) ≡ Err fault.NotBuilt
-unfolding is_utf8 chars toml_on_literals built_room_of built_room_of_document is_unserved document_of room_of_document version_of shell_of blocks_of lamps_of lamp_of shine_of checked_lamp task_of limits_of
-box_not_built = refl
+limits_not_built : built_room_of (line (codes "limits = {}") hall_text) ≡ Err fault.NotBuilt
+unfolding is_utf8 chars toml_on_literals built_room_of built_room_of_document is_unserved document_of room_of_document version_of shell_of blocks_of lamps_of lamp_of shine_of checked_lamp task_of limits_in limits_of
+limits_not_built = refl
+
+-- a room with reflecting surfaces, a longest edge of a patch and a box
+abbrev furnished_text : List ℕ
+furnished_text =
+    line (codes "version = 1")
+    (line (codes "[room]")
+    (line (codes "size = [6000, 5000, 3000]")
+    (line (codes "reflect = [201, 702, 503, 504, 505, 506]")
+    (line (codes "patch = 650")
+    (line (codes "[[box]]")
+    (line (codes "lo = [1, 2, 3]")
+    (line (codes "hi = [1004, 505, 706]")
+    (line (codes "reflect = 307")
+    (line (codes "[task]")
+    (line (codes "from = [0, 0]")
+    (line (codes "to = [6000, 5000]")
+    (line (codes "height = 700")
+    (codes "points = [9, 7]")))))))))))))
+
+abbrev furnished : Room
+furnished = record {
+  size = record { x = 6000; y = 5000; z = 3000 };
+  reflect = record { floor = 201; ceiling = 702; x0 = 503; x1 = 504; y0 = 505; y1 = 506 };
+  patch = 650;
+  blocks = record { lo = record { x = 1; y = 2; z = 3 }; hi = record { x = 1004; y = 505; z = 706 }; reflect = 307 } ∷ [];
+  lamps = [];
+  files = [];
+  task = record { from_x = 0; from_y = 0; to_x = 6000; to_y = 5000; height = 700; nx = 9; ny = 7 };
+  limits = record { average = None; uniformity = None };
+}
+
+furnished_read : built_room_of furnished_text ≡ Ok furnished
+unfolding is_utf8 chars toml_on_literals built_room_of built_room_of_document is_unserved document_of room_of_document version_of shell_of blocks_of block_of lamps_of lamp_of shine_of checked_lamp task_of limits_of
+furnished_read = refl
 
 -- ---- one fault of each kind
 

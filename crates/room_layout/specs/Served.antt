@@ -9,14 +9,7 @@ use Rattle.room_layout.specs.Checks.{items_list}
 
 abbrev pub unserved_of_document : List (List ℕ)
 unserved_of_document =
-    codes "box" ∷
     codes "limits" ∷
-    []
-
-abbrev pub unserved_of_room : List (List ℕ)
-unserved_of_room =
-    codes "reflect" ∷
-    codes "patch" ∷
     []
 
 abbrev pub unserved_of_lamp : List (List ℕ)
@@ -44,7 +37,4 @@ abbrev pub has_any_in_each : List (List ℕ) → Data → Bool
 has_any_in_each keys d = option_map_or (λ items. list_any (has_any_in keys) (items_list items)) (as_array d) false
 
 unfoldable pub is_unserved : Members → Bool
-is_unserved document =
-    has_any unserved_of_document document
-    || option_map_or (has_any_in unserved_of_room) (get_member (codes "room") document) false
-    || option_map_or (has_any_in_each unserved_of_lamp) (get_member (codes "lamp") document) false
+is_unserved document = has_any unserved_of_document document || option_map_or (has_any_in_each unserved_of_lamp) (get_member (codes "lamp") document) false

@@ -16,7 +16,7 @@ pub fn gives_plain()
     ensures { GivesPlain }
 {}
 
-/// Documents that differ only in the order of their keys give the same answer.
+/// Documents that are the same but for the order of their keys, at every level, give the same answer.
 pub fn ignores_order()
     ensures { IgnoresOrder }
 {}

@@ -4,7 +4,7 @@ ghost use Rattle.std.specs.List.{list_any};
 ghost use Rattle.std.specs.Option.{option_map_or};
 ghost use Rattle.toml.specs.Data.{get_member};
 ghost use Rattle.toml.specs.View.{view, table_view};
-ghost use Rattle.room_layout.specs.Served.{unserved_of_document, unserved_of_room, unserved_of_lamp, has_any, has_any_in, has_any_in_each, is_unserved};
+ghost use Rattle.room_layout.specs.Served.{unserved_of_document, unserved_of_lamp, has_any, has_any_in, has_any_in_each, is_unserved};
 
 use crate::check::member;
 use toml::{Table, Value};
@@ -14,33 +14,14 @@ use toml::{Table, Value};
 pub fn is_unserved(document: &Table) -> bool
     ensures { result ≡ is_unserved (table_view document.now) }
 {
-    has_unserved_key(document) || has_unserved_room(document) || has_unserved_lamps(document)
+    has_unserved_key(document) || has_unserved_lamps(document)
 }
 
 /// Whether the document has one at its top.
 fn has_unserved_key(document: &Table) -> bool
     ensures { result ≡ has_any unserved_of_document (table_view document.now) }
 {
-    has(document, "box") || has(document, "limits")
-}
-
-/// Whether the room has one.
-fn has_unserved_room(document: &Table) -> bool
-    ensures { result ≡ option_map_or (has_any_in unserved_of_room) (get_member (codes "room") (table_view document.now)) false }
-{
-    match member(document, "room") {
-        Some(value) => is_unserved_room(value),
-        None => false,
-    }
-}
-
-fn is_unserved_room(value: &Value) -> bool
-    ensures { result ≡ has_any_in unserved_of_room (view value.now) }
-{
-    match value.as_table() {
-        Some(room) => has(room, "reflect") || has(room, "patch"),
-        None => false,
-    }
+    has(document, "limits")
 }
 
 /// Whether one of the lamps has one.

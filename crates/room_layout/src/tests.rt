@@ -30,7 +30,29 @@ size = [6000, 6000, 3000] | size = [6000, 6000] | 5 Kind room.size
 size = [6000, 6000, 3000] | size = [499, 6000, 3000] | 6 Range room.size
 at = [3000, 3000, 3000] | at = [6001, 0, 0] | 7 Outside lamp 0
 points = [1, 1] | points = [33, 32] | 8 TooMany task.points
-points = [1, 1] | points = [32, 32] | accepted";
+points = [1, 1] | points = [32, 32] | accepted
+candela = 5000 | candela = 5000;turn = 0 | 9 NotBuilt
+points = [1, 1] | points = [1, 1];[limits] | 9 NotBuilt";
+
+/// Reflecting surfaces, a longest edge of a patch and two boxes.
+const FURNISHED: &str = "version = 1
+[room]
+size = [6000, 5000, 3000]
+reflect = [201, 702, 503, 504, 505, 506]
+patch = 650
+[[box]]
+lo = [1, 2, 3]
+hi = [1004, 505, 706]
+reflect = 307
+[[box]]
+lo = [2000, 2001, 0]
+hi = [6000, 5000, 3000]
+[task]
+from = [0, 0]
+to = [6000, 5000]
+height = 700
+points = [9, 7]
+";
 
 /// What is printed after `refused room `, or `accepted`.
 fn answer(alloc: Global, text: &str) -> Result<String, AllocError> {
@@ -149,11 +171,28 @@ fn a_changed_hall_is_refused_by_name_and_spot(rt: HostRuntime) -> Result<(), Fai
     let (without_task, _) = HALL.split_once("[task]").ok_or("a task")?;
     let printed = answer(alloc, without_task)?;
     assert_eq!(rt; printed.as_str(), "3 Missing task");
-    let printed = answer(
-        alloc,
-        "version = 1\nroom = { size = [2000, 2000, 2000], reflect = [500, 500, 500, 500, 500, 500], patch = 2000 }\nlamp = [{ at = [1000, 1000, 1000], candela = 200 }]\ntask = { from = [0, 0], to = [2000, 2000], height = 0, points = [1, 1] }\n",
-    )?;
-    assert_eq!(rt; printed.as_str(), "9 NotBuilt");
+    Ok(())
+}
+
+#[test]
+fn a_furnished_room_is_read(rt: HostRuntime) -> Result<(), Fail> {
+    let room = read_room(rt.alloc(), FURNISHED.as_bytes())?;
+    let reflect = room.reflect;
+    assert_eq!(rt; (reflect.floor, reflect.ceiling), (201, 702));
+    assert_eq!(rt;
+        (reflect.x0, reflect.x1, reflect.y0, reflect.y1),
+        (503, 504, 505, 506)
+    );
+    assert_eq!(rt; room.patch, 650);
+    assert_eq!(rt; room.blocks.len(), 2);
+    let first = room.blocks.as_slice().first().ok_or("a box")?;
+    assert_eq!(rt; (first.lo.x, first.lo.y, first.lo.z), (1, 2, 3));
+    assert_eq!(rt; (first.hi.x, first.hi.y, first.hi.z), (1004, 505, 706));
+    assert_eq!(rt; first.reflect, 307);
+    let second = room.blocks.as_slice().get(1).ok_or("a second box")?;
+    assert_eq!(rt; (second.lo.x, second.lo.y, second.lo.z), (2000, 2001, 0));
+    assert_eq!(rt; (second.hi.x, second.hi.y, second.hi.z), (6000, 5000, 3000));
+    assert_eq!(rt; second.reflect, 0);
     Ok(())
 }
 

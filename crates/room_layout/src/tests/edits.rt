@@ -195,13 +195,18 @@ limits = { uniformity_permille = 1001 } > 6 Range limits.uniformity_permille
 limits = { uniformity_permille = 1000 } > 9 NotBuilt
 room = { size = [6000, 5000, 3000] }; box; limits; lamp > accepted
 room = { size = [6000, 5000, 3000] }; box; limits; lamp = [{ at = [0, 0, 0], candela = 1 }] > accepted
-room = { size = [6000, 5000, 3000], reflect = [0, 0, 0, 0, 0, 0] }; box; limits; lamp > 9 NotBuilt
-room = { size = [6000, 5000, 3000], patch = 600 }; box; limits; lamp > 9 NotBuilt
+room = { size = [6000, 5000, 3000], reflect = [0, 0, 0, 0, 0, 0] }; box; limits; lamp > accepted
+room = { size = [6000, 5000, 3000], reflect = [950, 0, 950, 0, 950, 0] }; box; limits; lamp > accepted
+room = { size = [6000, 5000, 3000], patch = 600 }; box; limits; lamp > accepted
+room = { size = [6000, 5000, 3000], patch = 50 }; box; limits; lamp > accepted
+room = { size = [6000, 5000, 3000], patch = 50000 }; box; limits; lamp > accepted
 room = { size = [6000, 5000, 3000] }; box; limits; lamp = [{ at = [0, 0, 0], candela = 1 }, { at = [0, 0, 0], candela = 1, set = 1 }] > 9 NotBuilt
 room = { size = [6000, 5000, 3000] }; box; limits; lamp = [{ at = [0, 0, 0], candela = 1 }, { at = [0, 0, 0], candela = 1, turn = 0 }] > 9 NotBuilt
 room = { size = [6000, 5000, 3000] }; box; limits; lamp = [{ at = [0, 0, 0], candela = 1 }, { at = [0, 0, 0], candela = 1, maintenance = 1000 }] > 9 NotBuilt
 room = { size = [6000, 5000, 3000] }; box; limits; lamp = [{ at = [0, 0, 0], candela = 1 }, { at = [0, 0, 0], candela = 1, size = [0, 0] }] > 9 NotBuilt
 room = { size = [6000, 5000, 3000] }; box; limits; lamp = [{ at = [0, 0, 0], candela = 1 }, { at = [0, 0, 0], candela = 1, split = [1, 1] }] > 9 NotBuilt
 room = { size = [6000, 5000, 3000] }; box; limits; lamp = [{ at = [0, 0, 0], file = 'a' }] > 9 NotBuilt
-room = { size = [6000, 5000, 3000] }; box = []; limits; lamp > 9 NotBuilt
+room = { size = [6000, 5000, 3000] }; box = []; limits; lamp > accepted
+limits; lamp > accepted
+limits; lamp = [{ at = [3000, 3000, 3000], candela = 5000 }] > accepted
 room = { size = [6000, 5000, 3000] }; box; limits = {}; lamp > 9 NotBuilt";
