@@ -4,7 +4,7 @@ use Rattle.std.proofs.lemmas.List.{take_all, length-map}
 use Rattle.std.specs.List.{All, flat_map}
 use Rattle.std.proofs.Math.Nat.{mul-le-mul, mul-pos}
 use Rattle.std.proofs.lemmas.Int.{ints}
-use Rattle.std.proofs.lemmas.List.Elements.{All-nil, All-cons, All-append, All-weaker}
+use Rattle.std.proofs.lemmas.List.Elements.{All-nil, All-cons, All-append, All-same, All-weaker}
 use Rattle.room_layout.specs.declared.geometry.Size.{Size}
 use Rattle.room_layout.specs.declared.geometry.Point.{Point}
 use Rattle.room_layout.specs.declared.geometry.Face.{Face}
@@ -36,6 +36,10 @@ block_in_largest room b r h = let x = h.x in let y = h.y in let z = h.z in recor
   z = (h.z.0, omega (arith, r.z.1));
   reflect = h.reflect;
 }
+
+pub blocks_in_largest : (r : Room) (bs : List Block) → IsAccepted r → bs ≡ r.blocks → All (IsBlockIn largest_room) bs
+blocks_in_largest r bs h e = All-same (IsBlockIn largest_room) bs r.blocks e
+    (All-weaker (IsBlockIn r.size) (IsBlockIn largest_room) (λ b g. block_in_largest r.size b h.size g) r.blocks h.each_block)
 
 surface_in_largest : (room : Size) (s : Surface) → IsRoomSize room → IsSurfaceIn room s → IsSurfaceIn largest_room s
 surface_in_largest room s r h = let x = h.x in let y = h.y in let z = h.z in record {
