@@ -1,0 +1,10 @@
+pub mod Orders
+pub mod Rows
+pub mod Heavy
+pub mod Apart
+pub mod Falls
+pub mod Lamps
+pub mod Lights
+pub mod Made
+pub mod Seen
+pub mod Wholes

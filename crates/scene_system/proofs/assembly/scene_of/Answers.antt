@@ -1,0 +1,11 @@
+use Rattle.std.proofs.Common.{◌∙◌, ap, length}
+use Rattle.scene_system.proofs.Wholes.{is_system, well_formed}
+use Rattle.scene_system.proofs.assembly.scene_of.Goals as goal
+
+pub from_rows-system-requires : goal.from_rows-system-requires
+from_rows-system-requires c = is_system c.args.room.now _ _ c.args.patches.items _ _ c.requires.patches c.in_ok-rows.ensures c.in_ok-direct.ensures
+
+pub returns-clause-formed : goal.returns-clause-formed
+returns-clause-formed c = well_formed c.args.room.now _ _ _ c.requires.accepted c.requires.patches c.requires.points c.requires.some
+    (ap length c.from_rows-system.ensures.rows ∙ c.in_ok-rows.ensures.size) c.size-size.ensures.system
+    (rw c.as_slice-4.ensures.value at c.in_ok-point_rows.ensures) (rw c.as_slice-5.ensures.value at c.in_ok-point_direct.ensures)

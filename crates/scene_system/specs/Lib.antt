@@ -1,0 +1,8 @@
+pub mod Light
+pub mod Scene
+pub mod Assembled
+pub mod Causes
+pub mod Positions
+pub mod Parts
+pub mod RowSums
+pub mod Laws

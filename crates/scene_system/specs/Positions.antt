@@ -1,0 +1,32 @@
+-- The places at which the program computes, and the light that it finds there.
+use Rattle.std.specs.Prelude.{ℕ, ◌*◌, ◌≤◌, ◌^◌, pos, ◌≤ℤ◌}
+use Rattle.fx_base.specs.Ends.{Ends}
+use Rattle.fx_base.specs.Interval.{Meets, LiesIn}
+use Rattle.fx_base.specs.Units.{natural, of_span}
+use Rattle.room_layout.specs.Place.{Place}
+use Rattle.room_layout.specs.declared.geometry.Face.{Face}
+use Rattle.room_layout.specs.declared.room.Lamp.{Lamp}
+use Rattle.room_layout.specs.declared.room.Room.{Room}
+use Rattle.scene_system.specs.Causes.{candela_of}
+use Rattle.scene_system.specs.Light.{lamp_light, loose_lamp_light}
+use Rattle.scene_system.specs.declared.position.Position.{Position}
+
+abbrev pub place_at : Position → Place
+place_at p = record { x = p.x; y = p.y; z = p.z }
+
+-- within 100 m of the corner along each axis
+pub record IsWithinReach (p : Position) : Type 0 where
+  pub x : p.x ≤ 200000
+  pub y : p.y ≤ 200000
+  pub z : p.z ≤ 200000
+
+-- the most that a lamp of one candela gives, in ticks: at half a millimetre
+abbrev pub most_of_candela : ℕ
+most_of_candela = 4000000 * 2 ^ 36
+
+-- a span meets the light of a lamp at every depth, and lies in the loose form of it
+pub record IsLampLight (room : Room) (p : Place) (face : Face) (l : Lamp) (d : Ends) : Type 0 where
+  pub meets : (n : ℕ) → Meets (of_span d) (lamp_light n room p face l)
+  pub near : (n : ℕ) → LiesIn (of_span d) (loose_lamp_light n room p face l)
+  pub low : pos 0 ≤ℤ d.lo
+  pub most : natural d.hi ≤ candela_of l * most_of_candela

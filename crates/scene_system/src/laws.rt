@@ -1,0 +1,32 @@
+//! What holds of the definitions in `specs/`, each as the contract of a function that does nothing.
+ghost use Rattle.scene_system.specs.Laws.{LitIsInOrder};
+ghost use Rattle.scene_system.specs.RowSums.{HeavyHasCause, MildIsServed, NoneHeavyIsMild, RowsStayBelowOne};
+
+/// The enclosures of the coefficients and of the direct light of an accepted room aren't empty, at any depth, in the exact and in the
+/// loose form.
+pub fn lit_is_in_order()
+    ensures { LitIsInOrder }
+{}
+
+/// Where a row of the scene is heavy, that row's sum of coefficients is above 255/256 at each depth from 2, give or take 2^-32 for
+/// each patch; no earlier row is shown to be above it, and the sum in thousandths encloses that of the coefficients as nearly.
+pub fn heavy_has_cause()
+    ensures { HeavyHasCause }
+{}
+
+/// Where no row of the scene is heavy, no row's sum of coefficients is shown to be above 255/256 at any depth.
+pub fn none_heavy_is_mild()
+    ensures { NoneHeavyIsMild }
+{}
+
+/// Where each row's sum of coefficients is shown at some depth from 2 to be at most 255/256 less the slack, no row of the scene is
+/// heavy.
+pub fn mild_is_served()
+    ensures { MildIsServed }
+{}
+
+/// Where no row of the scene is heavy, the upper ends of the coefficients of each row add up to less than one at each depth from 2,
+/// in the exact and in the loose form.
+pub fn rows_stay_below_one()
+    ensures { RowsStayBelowOne }
+{}

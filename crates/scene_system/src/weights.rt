@@ -1,0 +1,115 @@
+//! The weights with which patches light a place.
+ghost use Rattle.std.specs.Prelude.{◌≡◌, ℕ, ◌<◌, ◌≤◌, IfOk, length};
+ghost use Rattle.room_layout.specs.Place.{place_of};
+ghost use Rattle.room_layout.specs.declared.geometry.Face.TheVariants.{Up};
+ghost use Rattle.patch_mesh.specs.Bounds.{IsPatchIn, IsPointIn, largest_room};
+ghost use Rattle.form_factor.specs.Weights.{IsCoefficient};
+ghost use Rattle.scene_system.specs.Light.{is_clear};
+ghost use Rattle.scene_system.specs.Parts.{ArePatchesOf, AreTaskPointsOf, AreRowsAt, IsRowAt};
+ghost use Rattle.scene_system.specs.Scene.{patch_count, patch_face, patch_place, task_point_place};
+
+use crate::sight::is_clear;
+use form_factor::{factor, point_factor};
+use fx_base::{Memory, Weight};
+use interval_system::Row;
+use patch_mesh::{Patch, TaskPoint};
+use room_layout::{Point, Room};
+use std::alloc::Global;
+
+const NOTHING: Weight = Weight { lo: 0, hi: 0 };
+
+/// The weight with which patch `b` lights patch `a`. Sight is asked only where something is handed on.
+fn patch_weight(room: &Room, a: &Patch, b: &Patch) -> Weight
+    requires a { IsPatchIn largest_room a.now }
+    requires b { IsPatchIn largest_room b.now }
+    ensures { IsCoefficient (place_of a.now.centre) a.now.face b.now (is_clear room.now (place_of a.now.centre) (place_of b.now.centre)) result }
+{
+    let open = factor(a, b, true);
+    if open.hi == 0 {
+        return open;
+    }
+    if is_clear(room, a.centre, b.centre) {
+        return open;
+    }
+    NOTHING
+}
+
+/// The weight with which patch `b` lights a point that faces up.
+fn point_weight(room: &Room, at: Point, b: &Patch) -> Weight
+    requires at { IsPointIn largest_room at }
+    requires b { IsPatchIn largest_room b.now }
+    ensures { IsCoefficient (place_of at) Up b.now (is_clear room.now (place_of at) (place_of b.now.centre)) result }
+{
+    let open = point_factor(at, b, true);
+    if open.hi == 0 {
+        return open;
+    }
+    if is_clear(room, at, b.centre) {
+        return open;
+    }
+    NOTHING
+}
+
+/// The weights with which the patches of the room light one of them.
+fn patch_row(alloc: Global, room: &Room, patches: &[Patch], a: &Patch) -> Result<Row, Memory>
+    requires patches { ArePatchesOf room.now patches.now }
+    requires a { IsPatchIn largest_room a.now }
+    ensures { IfOk result (λ row. IsRowAt room.now (place_of a.now.centre) a.now.face row) }
+{
+    let mut row = Row::new(alloc, patches.len())?;
+    for j in 0..patches.len() {
+        row.put(j, patch_weight(room, a, &patches[j]));
+    }
+    Ok(row)
+}
+
+/// The weights with which the patches of the room light a point that faces up.
+fn point_row(alloc: Global, room: &Room, patches: &[Patch], at: Point) -> Result<Row, Memory>
+    requires patches { ArePatchesOf room.now patches.now }
+    requires at { IsPointIn largest_room at }
+    ensures { IfOk result (λ row. IsRowAt room.now (place_of at) Up row) }
+{
+    let mut row = Row::new(alloc, patches.len())?;
+    for j in 0..patches.len() {
+        row.put(j, point_weight(room, at, &patches[j]));
+    }
+    Ok(row)
+}
+
+/// The weights of all patches at each patch, in the order of the patches.
+pub fn patch_rows(alloc: Global, room: &Room, patches: &[Patch]) -> Result<Vec<Row>, Memory>
+    requires patches { ArePatchesOf room.now patches.now }
+    ensures { IfOk result (λ rows. AreRowsAt room.now (patch_place room.now) (patch_face room.now) (patch_count room.now) rows.items) }
+{
+    let mut rows = Vec::new(alloc);
+    for i in 0..patches.len() {
+        let row = patch_row(alloc, room, patches, &patches[i])?;
+        match rows.push(row) {
+            Ok(()) => {}
+            Err(_) => return Err(Memory),
+        }
+    }
+    Ok(rows)
+}
+
+/// The weights of all patches at each task point, in the order of the points.
+pub fn point_rows(
+    alloc: Global,
+    room: &Room,
+    patches: &[Patch],
+    points: &[TaskPoint],
+) -> Result<Vec<Row>, Memory>
+    requires patches { ArePatchesOf room.now patches.now }
+    requires points { AreTaskPointsOf room.now points.now }
+    ensures { IfOk result (λ rows. AreRowsAt room.now (task_point_place room.now) (λ _. Up) (length points.now) rows.items) }
+{
+    let mut rows = Vec::new(alloc);
+    for g in 0..points.len() {
+        let row = point_row(alloc, room, patches, points[g].at)?;
+        match rows.push(row) {
+            Ok(()) => {}
+            Err(_) => return Err(Memory),
+        }
+    }
+    Ok(rows)
+}
