@@ -1,0 +1,17 @@
+pub mod PointSteps
+pub mod PointOrder
+pub mod Near
+pub mod Composed
+pub mod AtPoints
+pub mod GridOrder
+pub mod Leasts
+pub mod Lines
+pub mod Means
+pub mod Printing
+pub mod Right
+pub mod Rooms
+pub mod Sent
+pub mod Shares
+pub mod TickMeans
+pub mod Totals
+pub mod Uniform

@@ -1,0 +1,181 @@
+-- What is printed of values meets the exact values, and is near the loose ones: the average and the uniformity.
+use Rattle.std.proofs.Common.{ℕ, ◌+◌, ◌<◌, ◌≤◌, ◌≡◌, Bool, false, List, length, arith, subst, ap, ◌==◌}
+use Rattle.std.specs.Prelude.{slice_index_or}
+use Rattle.std.proofs.lemmas.Bool.Decides.{nat_tests}
+use Rattle.std.proofs.lemmas.List.{get_or_default}
+use Rattle.fx_base.specs.Fraction.{Fraction, ◌≤ᶠ◌, ◌<ᶠ◌, ◌+ᶠ◌, ◌-ᶠ◌, ◌*ᶠ◌, ◌/ᶠ◌, ratio, whole, lesser}
+use Rattle.fx_base.specs.Interval.{InOrder, Meets, LiesIn, outward}
+use Rattle.fx_base.specs.Units.{ticks, of_span}
+use Rattle.fx_base.proofs.Order.{le_refl_f, le_trans_f, lt_le_trans_f, add_le_f, sub_back_f}
+use Rattle.fx_base.proofs.Ratios.{positive_above}
+use Rattle.fx_base.proofs.Rounding.{natural-mono}
+use Rattle.fx_base.proofs.Sums.{ticks_back, ticks_le}
+use Rattle.interval_system.specs.Values.{Grid, least, average, uniformity}
+use Rattle.grid_report.specs.Sums.{lower_end, upper_end, open_total, average_low, average_high, IsLeast, IsValue}
+use Rattle.grid_report.specs.declared.value.PointValue.{PointValue}
+use Rattle.grid_report.proofs.Means.{AreCoveredBy, no_point}
+use Rattle.grid_report.proofs.Shares.{IsDown, IsUp, down_meets, down_most, up_meets, down_near, up_near}
+use Rattle.grid_report.proofs.TickMeans.{count_is, mean_above, mean_below, mean_near_above, mean_near_below, least_above, least_below_ticks, least_near_above, least_near_below}
+use Rattle.grid_report.proofs.GridOrder.{at_test}
+use Rattle.grid_report.proofs.Uniform.{least_below_mean, mean_le}
+
+-- ---- values and a grid
+
+-- the values in ticks meet those of a grid, whose intervals are in order, at the points that aren't covered
+pub record AreMeeting (x : Grid) (vs : List PointValue) : Type 0 where
+  pub count : x.points ≡ length vs
+  pub covered : AreCoveredBy vs x.covered
+  pub meets : (g : ℕ) (d : PointValue) → g < length vs → x.covered g ≡ false → Meets (of_span (slice_index_or vs g d).value) (x.value g)
+  pub order : (g : ℕ) → g < length vs → InOrder (x.value g)
+
+-- they lie in those of a grid, moved outward by e ticks
+pub record AreNear (e : ℕ) (y : Grid) (vs : List PointValue) : Type 0 where
+  pub few : e ≤ 2048
+  pub count : y.points ≡ length vs
+  pub covered : AreCoveredBy vs y.covered
+  pub near : (g : ℕ) (d : PointValue) → g < length vs → y.covered g ≡ false → LiesIn (of_span (slice_index_or vs g d).value) (outward (ticks e) (y.value g))
+  pub order : (g : ℕ) → g < length vs → InOrder (y.value g)
+
+pub near_low : (e : ℕ) (y : Grid) (vs : List PointValue) → AreNear e y vs → (g : ℕ) (d : PointValue) → g < length vs → y.covered g ≡ false
+    → (y.value g).lo ≤ᶠ (ticks (lower_end (slice_index_or vs g d)) +ᶠ ticks e)
+near_low e y vs m g d l o = sub_back_f (y.value g).lo (ticks e) (m.near g d l o).lower
+
+pub near_high : (e : ℕ) (y : Grid) (vs : List PointValue) → AreNear e y vs → (g : ℕ) (d : PointValue) → g < length vs → y.covered g ≡ false
+    → ticks (upper_end (slice_index_or vs g d)) ≤ᶠ ((y.value g).hi +ᶠ ticks e)
+near_high e y vs m g d l o = (m.near g d l o).upper
+
+-- ---- the average
+
+pub average_meets : (x : Grid) (vs : List PointValue) → AreMeeting x vs → 0 < open_total vs → Meets (record { lo = ticks (average_low vs); hi = ticks (average_high vs) }) (average x)
+unfolding average
+average_meets x vs m some = rw m.count (record {
+  above = mean_above vs x.covered (λ g. (x.value g).hi) m.covered some (λ g d l o. (m.meets g d l o).above);
+  below = mean_below vs x.covered (λ g. (x.value g).lo) m.covered some (λ g d l o. (m.meets g d l o).below);
+})
+
+pub average_near_low : (e : ℕ) (y : Grid) (vs : List PointValue) → AreNear e y vs → 0 < open_total vs → (average y).lo ≤ᶠ (ticks (average_low vs) +ᶠ ticks (e + 1))
+unfolding average
+average_near_low e y vs m some = rw m.count (mean_near_above e vs y.covered (λ g. (y.value g).lo) m.covered some (near_low e y vs m))
+
+pub average_near_high : (e : ℕ) (y : Grid) (vs : List PointValue) → AreNear e y vs → 0 < open_total vs → ticks (average_high vs) ≤ᶠ ((average y).hi +ᶠ ticks (e + 1))
+unfolding average
+average_near_high e y vs m some = rw m.count (mean_near_below e vs y.covered (λ g. (y.value g).hi) m.covered some (near_high e y vs m))
+
+-- ---- the uniformity
+
+ends_order : (v : PointValue) → IsValue v → lower_end v ≤ upper_end v
+ends_order v h = natural-mono v.value.lo v.value.hi h.low h.order
+
+same_default : (number : PointValue → ℕ) (vs : List PointValue) (g : ℕ) (d : PointValue) → g < length vs → number (slice_index_or vs g d) ≤ number (slice_index_or vs g no_point)
+same_default number vs g d l = omega (arith, ap number (get_or_default vs g d no_point l))
+
+default_same : (number : PointValue → ℕ) (vs : List PointValue) (g : ℕ) (d : PointValue) → g < length vs → number (slice_index_or vs g no_point) ≤ number (slice_index_or vs g d)
+default_same number vs g d l = omega (arith, ap number (get_or_default vs g d no_point l))
+
+-- the least lower end is at most the average's upper end
+pub least_within_average : (vs : List PointValue) (covered : ℕ → Bool) (a : ℕ) → AreCoveredBy vs covered → 0 < open_total vs → IsLeast lower_end vs a
+    → ((g : ℕ) (d : PointValue) → g < length vs → IsValue (slice_index_or vs g d)) → a ≤ average_high vs
+least_within_average vs covered a same some is each =
+    let low : ℕ → Fraction = λ g. ticks (lower_end (slice_index_or vs g no_point)) in
+    let high : ℕ → Fraction = λ g. ticks (upper_end (slice_index_or vs g no_point)) in
+    let one = least_above lower_end vs covered low a same some is (λ g d l o. ticks_le (lower_end (slice_index_or vs g d)) (lower_end (slice_index_or vs g no_point)) (same_default lower_end vs g d l)) in
+    let two = least_below_mean covered low high (length vs) (rw (count_is vs covered same) some) (λ g l o. ticks_le (lower_end (slice_index_or vs g no_point)) (upper_end (slice_index_or vs g no_point)) (ends_order (slice_index_or vs g no_point) (each g no_point l))) in
+    let three = mean_below vs covered high same some (λ g d l o. ticks_le (upper_end (slice_index_or vs g no_point)) (upper_end (slice_index_or vs g d)) (default_same upper_end vs g d l)) in
+    ticks_back a (average_high vs) (le_trans_f one (le_trans_f two three))
+
+-- and the average's lower end is at most its upper end
+pub averages_order : (vs : List PointValue) (covered : ℕ → Bool) → AreCoveredBy vs covered → 0 < open_total vs
+    → ((g : ℕ) (d : PointValue) → g < length vs → IsValue (slice_index_or vs g d)) → average_low vs ≤ average_high vs
+averages_order vs covered same some each =
+    let low : ℕ → Fraction = λ g. ticks (lower_end (slice_index_or vs g no_point)) in
+    let high : ℕ → Fraction = λ g. ticks (upper_end (slice_index_or vs g no_point)) in
+    let one = mean_above vs covered low same some (λ g d l o. ticks_le (lower_end (slice_index_or vs g d)) (lower_end (slice_index_or vs g no_point)) (same_default lower_end vs g d l)) in
+    let two = mean_le covered low high (length vs) (rw (count_is vs covered same) some) (λ g l o. ticks_le (lower_end (slice_index_or vs g no_point)) (upper_end (slice_index_or vs g no_point)) (ends_order (slice_index_or vs g no_point) (each g no_point l))) in
+    let three = mean_below vs covered high same some (λ g d l o. ticks_le (upper_end (slice_index_or vs g no_point)) (upper_end (slice_index_or vs g d)) (default_same upper_end vs g d l)) in
+    ticks_back (average_low vs) (average_high vs) (le_trans_f one (le_trans_f two three))
+
+pub down_uniformity : (x : Grid) (vs : List PointValue) (a n : ℕ) → AreMeeting x vs → 0 < open_total vs → IsLeast lower_end vs a → IsDown a (average_high vs) n
+    → ratio n 1000 ≤ᶠ (uniformity x).hi
+unfolding uniformity
+down_uniformity x vs a n m some is d =
+    at_test ((average x).lo.num == 0) (whole 1) (lesser (whole 1) (least x.covered (λ g. (x.value g).hi) x.points /ᶠ (average x).lo)) (ratio n 1000)
+    (λ t. down_most a (average_high vs) n d)
+    (λ t. down_meets a (average_high vs) n (least x.covered (λ g. (x.value g).hi) x.points) (average x).lo d
+    (rw m.count (least_above lower_end vs x.covered (λ g. (x.value g).hi) a m.covered some is (λ g e l o. (m.meets g e l o).above)))
+    (average_meets x vs m some).below
+    (grind (arith, nat_tests)))
+
+order_mean : (x : Grid) (vs : List PointValue) → AreMeeting x vs → 0 < open_total vs → least x.covered (λ g. (x.value g).lo) x.points ≤ᶠ (average x).hi
+unfolding average
+order_mean x vs m some = least_below_mean x.covered (λ g. (x.value g).lo) (λ g. (x.value g).hi) x.points (rw (m.count, count_is vs x.covered m.covered) some) (λ g l o. m.order g (subst (λ z. g < z) m.count l))
+
+ticks_positive : (t : ℕ) → 0 < t → 0 < (ticks t).num
+unfolding ticks
+ticks_positive t p = p
+
+pub up_uniformity : (x : Grid) (vs : List PointValue) (a n : ℕ) → AreMeeting x vs → 0 < open_total vs → 0 < average_low vs → IsLeast upper_end vs a → IsUp a (average_low vs) n
+    → (uniformity x).lo ≤ᶠ ratio n 1000
+unfolding uniformity
+up_uniformity x vs a n m some positive is u =
+    up_meets a (average_low vs) n (least x.covered (λ g. (x.value g).lo) x.points) (average x).hi u
+    (rw m.count (least_below_ticks upper_end vs x.covered (λ g. (x.value g).lo) a m.covered is (λ g e l o. (m.meets g e l o).below)))
+    (average_meets x vs m some).above
+    (positive_above (ticks_positive (average_low vs) positive) (average_meets x vs m some).above)
+    (order_mean x vs m some)
+
+none_below : (t : ℕ) → 0 < t → whole 0 <ᶠ ticks t
+unfolding whole ticks
+none_below t p = record { cross = omega arith }
+
+pub positive_average : (x : Grid) (vs : List PointValue) → AreMeeting x vs → 0 < open_total vs → 0 < average_low vs → whole 0 <ᶠ (average x).hi
+positive_average x vs m some positive = lt_le_trans_f (none_below (average_low vs) positive) (average_meets x vs m some).above
+
+-- ---- near the loose uniformity
+
+order_mean_near : (e : ℕ) (y : Grid) (vs : List PointValue) → AreNear e y vs → 0 < open_total vs → least y.covered (λ g. (y.value g).lo) y.points ≤ᶠ (average y).hi
+unfolding average
+order_mean_near e y vs m some = least_below_mean y.covered (λ g. (y.value g).lo) (λ g. (y.value g).hi) y.points (rw (m.count, count_is vs y.covered m.covered) some) (λ g l o. m.order g (subst (λ z. g < z) m.count l))
+
+nearly_one : (w t : ℕ) → w ≤ 2049 → whole 1 ≤ᶠ (ticks t +ᶠ ticks w) → 68719474687 ≤ t
+unfolding whole ticks ◌+ᶠ◌
+nearly_one w t few h = let g = h.cross in omega arith
+
+half_one : (t : ℕ) → 68719474687 ≤ t → whole 1 ≤ᶠ (whole 2 *ᶠ ticks t)
+unfolding whole ticks ◌*ᶠ◌
+half_one t h = record { cross = omega arith }
+
+one_positive : 0 < (whole 1).num
+unfolding whole
+one_positive = omega arith
+
+average_order_near : (e : ℕ) (y : Grid) (vs : List PointValue) → AreNear e y vs → 0 < open_total vs → (average y).lo ≤ᶠ (average y).hi
+unfolding average
+average_order_near e y vs m some = mean_le y.covered (λ g. (y.value g).lo) (λ g. (y.value g).hi) y.points (rw (m.count, count_is vs y.covered m.covered) some) (λ g l o. m.order g (subst (λ z. g < z) m.count l))
+
+more_than : (e : ℕ) (x : Fraction) → (x +ᶠ ticks e) ≤ᶠ (x +ᶠ ticks (e + 1))
+more_than e x = add_le_f (le_refl_f x) (ticks_le e (e + 1) (omega arith))
+
+pub down_uniformity_near : (e : ℕ) (y : Grid) (vs : List PointValue) (a n : ℕ) → AreNear e y vs → 0 < open_total vs → average_low vs ≤ average_high vs → IsLeast lower_end vs a → IsDown a (average_high vs) n
+    → whole 1 ≤ᶠ (average y).lo → ((uniformity y).lo -ᶠ ratio 2 1000) ≤ᶠ ratio n 1000
+unfolding uniformity
+down_uniformity_near e y vs a n m some order is d one =
+    let few : e + 1 ≤ 2049 = let h = m.few in omega arith in
+    let big : 68719474687 ≤ average_low vs = nearly_one (e + 1) (average_low vs) few (le_trans_f one (average_near_low e y vs m some)) in
+    down_near (e + 1) a (average_high vs) n (least y.covered (λ g. (y.value g).lo) y.points) (average y).hi few d
+    (rw m.count (le_trans_f (least_near_below (ticks e) lower_end vs y.covered (λ g. (y.value g).lo) a m.covered is (near_low e y vs m)) (more_than e (ticks a))))
+    (average_near_high e y vs m some)
+    (positive_above one_positive (le_trans_f one (average_order_near e y vs m some)))
+    (order_mean_near e y vs m some)
+    (omega (arith, big, order))
+    (half_one (average_high vs) (omega (arith, big, order)))
+
+pub up_uniformity_near : (e : ℕ) (y : Grid) (vs : List PointValue) (a n : ℕ) → AreNear e y vs → 0 < open_total vs → IsLeast upper_end vs a → IsUp a (average_low vs) n
+    → whole 1 ≤ᶠ (average y).lo → ratio n 1000 ≤ᶠ ((uniformity y).hi +ᶠ ratio 2 1000)
+unfolding uniformity
+up_uniformity_near e y vs a n m some is u one =
+    let few : e + 1 ≤ 2049 = let h = m.few in omega arith in
+    let p : 0 < (average y).lo.num = positive_above one_positive one in
+    let t : ((average y).lo.num == 0) ≡ false = grind (arith, nat_tests) in
+    rw t (up_near (e + 1) a (average_low vs) n (least y.covered (λ g. (y.value g).hi) y.points) (average y).lo few u
+    (rw m.count (le_trans_f (least_near_above (ticks e) upper_end vs y.covered (λ g. (y.value g).hi) a m.covered some is (near_high e y vs m)) (more_than e (least y.covered (λ g. (y.value g).hi) (length vs)))))
+    (average_near_low e y vs m some) one)
