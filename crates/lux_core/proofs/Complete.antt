@@ -1,12 +1,20 @@
--- Where a report can be given and nothing fails, a report is given.
-use Rattle.std.proofs.Common.{ℕ, ◌<◌, ◌≤◌, ◌≡◌, ◌≢◌, ◌⊎◌, inl, inr, List, length, refl, sym, ◌∙◌, subst, arith, ap}
+-- Where an answer can be given and nothing fails, it is given.
+use Rattle.std.proofs.Common.{ℕ, ◌<◌, ◌≡◌, ◌≢◌, ◌⊎◌, inl, inr, List, length, refl, sym, ◌∙◌, subst, arith}
 use Rattle.std.specs.Prelude.{Option, Some, None, IfSome, IsSomeAnd, Result, Ok, Err}
 use Rattle.lux_io.specs.Files.{bytes_of, Rose, Stood}
 use Rattle.room_layout.specs.Layout.{built_room_of}
 use Rattle.room_layout.specs.declared.room.Room.{Room}
 use Rattle.room_layout.specs.declared.fault.RoomFault.{RoomFault}
-use Rattle.lux_core.specs.Answers.{Shelf, WereRead, IsAbsent, IsTooLong, IsRoomAnswer, IsFileAnswer, IsAnswer, CanReport, longest_file, total_candela, greatest_candela}
-use Rattle.lux_core.specs.Commands.{report_name}
+use Rattle.fx_base.specs.Fraction.{Fraction, ◌≤ᶠ◌, ◌<ᶠ◌}
+use Rattle.fx_base.proofs.Order.{lt_le_trans_f}
+use Rattle.scene_system.specs.Causes.{IsCause, IsWithinLimits}
+use Rattle.scene_system.specs.RowSums.{IsMild}
+use Rattle.scene_system.specs.declared.fault.SceneFault.{SceneFault}
+use Rattle.scene_system.specs.declared.fault.SceneFault.TheVariants as scene_fault
+use Rattle.lux_core.specs.Answers.{Shelf, WereRead, IsAbsent, IsTooLong, IsSaidOf, HasNoScene, HasHeavyRow, IsRoomAnswer, IsFileAnswer, IsAnswer, CanAnswer, IsAble, longest_file}
+use Rattle.lux_core.specs.Commands.{question_of, room_name}
+use Rattle.lux_core.specs.declared.words.Question.{Question}
+use Rattle.lux_core.specs.declared.words.Question.TheVariants as question
 use Rattle.lux_core.specs.declared.status.Status.{Status}
 use Rattle.lux_core.specs.declared.status.Status.TheVariants as status
 
@@ -21,64 +29,98 @@ some_and : (o : Option (List ℕ)) (b : List ℕ) (P : List ℕ → Type 0) → 
 some_and None b P e h = absurd (h)
 some_and (Some s) b P e h = subst P (some_of s b e) h
 
--- the name is the one that the words give
-same_name : (words : List (List ℕ)) (m n : List ℕ) → report_name words ≡ Some m → report_name words ≡ Some n → m ≡ n
-same_name words m n e f = cc
+-- the question is the one that the words ask
+same_question : (words : List (List ℕ)) (a b : Question) → question_of words ≡ Some a → question_of words ≡ Some b → a ≡ b
+same_question words a b e f = cc
 
-not_absent : (words : List (List ℕ)) (shelf : Shelf) (name text : List ℕ) (c : CanReport words shelf.files) → name ≡ c.name → IsAbsent shelf name text → ⊥
-not_absent words shelf name text c e a =
-    let none : bytes_of name c.told ≡ None = told_of shelf.files c.told (λ fs. bytes_of name fs ≡ None) c.files_are a.told in
-    let same : bytes_of name c.told ≡ bytes_of c.name c.told = ap (λ (n : List ℕ). bytes_of n c.told) e in
+not_absent : (words : List (List ℕ)) (shelf : Shelf) (text : List ℕ) (c : CanAnswer words shelf.files) → IsAbsent shelf (room_name words) text → ⊥
+not_absent words shelf text c a =
+    let none : bytes_of (room_name words) c.told ≡ None = told_of shelf.files c.told (λ fs. bytes_of (room_name words) fs ≡ None) c.files_are a.told in
     let found = c.found in absurd (cc)
 
-not_too_long : (words : List (List ℕ)) (shelf : Shelf) (name text : List ℕ) (c : CanReport words shelf.files) → name ≡ c.name → IsTooLong shelf name text → ⊥
-not_too_long words shelf name text c e a =
-    let some = told_of shelf.files c.told (λ fs. IsSomeAnd (bytes_of name fs) (λ bytes. longest_file < length bytes)) c.files_are a.told in
-    let found : bytes_of name c.told ≡ Some c.bytes = ap (λ (n : List ℕ). bytes_of n c.told) e ∙ c.found in
-    let long = some_and (bytes_of name c.told) c.bytes (λ bytes. longest_file < length bytes) found some in
+not_too_long : (words : List (List ℕ)) (shelf : Shelf) (text : List ℕ) (c : CanAnswer words shelf.files) → IsTooLong shelf (room_name words) text → ⊥
+not_too_long words shelf text c a =
+    let some = told_of shelf.files c.told (λ fs. IsSomeAnd (bytes_of (room_name words) fs) (λ bytes. longest_file < length bytes)) c.files_are a.told in
+    let long = some_and (bytes_of (room_name words) c.told) c.bytes (λ bytes. longest_file < length bytes) c.found some in
     let few = c.few in absurd (omega arith)
 
-read_bytes : (words : List (List ℕ)) (shelf : Shelf) (name bytes : List ℕ) (c : CanReport words shelf.files) → name ≡ c.name → WereRead shelf name bytes → bytes ≡ c.bytes
-read_bytes words shelf name bytes c e r =
-    let read : bytes_of name c.told ≡ Some bytes = told_of shelf.files c.told (λ fs. bytes_of name fs ≡ Some bytes) c.files_are r.told in
-    let found : bytes_of name c.told ≡ Some c.bytes = ap (λ (n : List ℕ). bytes_of n c.told) e ∙ c.found in
-    some_of bytes c.bytes (sym read ∙ found)
+read_bytes : (words : List (List ℕ)) (shelf : Shelf) (bytes : List ℕ) (c : CanAnswer words shelf.files) → WereRead shelf (room_name words) bytes → bytes ≡ c.bytes
+read_bytes words shelf bytes c r =
+    let read : bytes_of (room_name words) c.told ≡ Some bytes = told_of shelf.files c.told (λ fs. bytes_of (room_name words) fs ≡ Some bytes) c.files_are r.told in
+    some_of bytes c.bytes (sym read ∙ c.found)
 
-not_refused : (bytes text : List ℕ) (room : Room) → built_room_of bytes ≡ Ok room → total_candela room ≤ greatest_candela → IsRoomAnswer bytes status.Refused text → ⊥
-not_refused bytes text room accepted dim (inl f) = let r = f.refused in ok_err room f.fault (sym accepted ∙ r)
+-- a room within its limits has a scene
+has_scene : (room : Room) (text : List ℕ) → IsWithinLimits room → HasNoScene room text → ⊥
+has_scene room text w h = by_fault h.fault h.no_want h.cause
+  where
+    by_fault : (f : SceneFault) → f ≢ scene_fault.Memory → IsCause room f → ⊥
+    by_fault scene_fault.TotalIntensity n bright = let dim = w.dim in absurd (omega arith)
+    by_fault (scene_fault.TooManyPatches count) n many = let m = many.1 in let few = w.few in absurd (omega arith)
+    by_fault scene_fault.NoTaskPoint n none = let z = none.2 in let some = w.some_open in absurd (omega arith)
+    by_fault scene_fault.Memory n want = n refl
+
+less_than_itself : (a b : Fraction) → a <ᶠ b → b ≤ᶠ a → ⊥
+less_than_itself a b less most = let l = (lt_le_trans_f less most).cross in absurd (omega arith)
+
+-- and a mild room is not refused for a row
+has_no_heavy_row : (room : Room) (text : List ℕ) → IsMild room → HasHeavyRow room text → ⊥
+has_no_heavy_row room text m h = less_than_itself _ _ (h.heavy.heavy m.depth m.deep) (m.row h.row h.heavy.in_room)
+
+not_refused_of : (asked : Question) (room : Room) (text : List ℕ) → IsAble asked room → IsSaidOf asked room status.Refused text → ⊥
+not_refused_of question.Report room text able (inl none) = has_scene room text able.0 none
+not_refused_of question.Report room text able (inr heavy) = has_no_heavy_row room text able.1 heavy
+not_refused_of (question.Sight p q) room text able said = absurd said
+
+not_refused : (asked : Question) (bytes text : List ℕ) (room : Room) → built_room_of bytes ≡ Ok room → IsAble asked room → IsRoomAnswer asked bytes status.Refused text → ⊥
+not_refused asked bytes text room accepted able (inl f) = let r = f.refused in ok_err room f.fault (sym accepted ∙ r)
   where
     ok_err : (a : Room) (e : RoomFault) → (let r : Result Room RoomFault = Ok a in r) ≡ Err e → ⊥
     ok_err a e h = cc
-not_refused bytes text room accepted dim (inr b) =
+not_refused asked bytes text room accepted able (inr b) =
     let same : b.room ≡ room = ok_same b.room room (sym b.accepted ∙ accepted) in
-    let P : Room → Type 0 = λ r. greatest_candela < total_candela r in
-    let bright = subst P same b.bright in absurd (omega arith)
+    let P : Room → Type 0 = λ r. IsSaidOf asked r status.Refused text in
+    not_refused_of asked room text able (subst P same b.said)
   where
     ok_same : (a b : Room) → (let r : Result Room RoomFault = Ok a in r) ≡ Ok b → a ≡ b
     ok_same a b h = cc
 
-not_faulty : (words : List (List ℕ)) (shelf : Shelf) (name text : List ℕ) (c : CanReport words shelf.files) → name ≡ c.name → IsFileAnswer shelf name status.Refused text → ⊥
-not_faulty words shelf name text c e (inl a) = not_absent words shelf name text c e a
-not_faulty words shelf name text c e (inr (inl a)) = not_too_long words shelf name text c e a
-not_faulty words shelf name text c e (inr (inr a)) =
-    let same = read_bytes words shelf name a.bytes c e a.read in
-    let P : List ℕ → Type 0 = λ b. IsRoomAnswer b status.Refused text in
-    not_refused c.bytes text c.room c.accepted c.dim (subst P same a.given)
+not_faulty : (words : List (List ℕ)) (shelf : Shelf) (asked : Question) (text : List ℕ) (c : CanAnswer words shelf.files) → asked ≡ c.asked
+    → IsFileAnswer asked shelf (room_name words) status.Refused text → ⊥
+not_faulty words shelf asked text c e (inl a) = not_absent words shelf text c a
+not_faulty words shelf asked text c e (inr (inl a)) = not_too_long words shelf text c a
+not_faulty words shelf asked text c e (inr (inr a)) =
+    let same = read_bytes words shelf a.bytes c a.read in
+    let P : List ℕ → Type 0 = λ b. IsRoomAnswer asked b status.Refused text in
+    let able : IsAble asked c.room = subst (λ (q : Question). IsAble q c.room) (sym e) c.able in
+    not_refused asked c.bytes text c.room c.accepted able (subst P same a.given)
 
-pub done_where_possible : (words : List (List ℕ)) (shelf : Shelf) (given : Status) (text : List ℕ) → CanReport words shelf.files → Stood shelf.faults_before shelf.faults_now
+pub done_where_possible : (words : List (List ℕ)) (shelf : Shelf) (given : Status) (text : List ℕ) → CanAnswer words shelf.files → Stood shelf.faults_before shelf.faults_now
     → IsAnswer words shelf given text → given ≡ status.Done
 done_where_possible words shelf status.Done text c s a = refl
 done_where_possible words shelf status.Usage text c s a = absurd (none_some (sym a.none ∙ c.command))
   where
     none_some : {T : Type 0} {t : T} → (let o : Option T = None in o) ≡ Some t → ⊥
     none_some h = cc
-done_where_possible words shelf status.Refused text c s a = absurd (not_faulty words shelf a.name text c (same_name words a.name c.name a.command c.command) a.answer)
+done_where_possible words shelf status.Refused text c s a = absurd (not_faulty words shelf a.asked text c (same_question words a.asked c.asked a.command c.command) a.answer)
 done_where_possible words shelf status.ReadFault text c s a = let r = (a.answer).rose in absurd (omega (arith, r, s.0, s.1))
 done_where_possible words shelf status.WriteFault text c s a = absurd a
 done_where_possible words shelf status.Memory text c s a = absurd a
 done_where_possible words shelf status.Missed text c s a = absurd a
 done_where_possible words shelf status.Undecided text c s a = absurd a
 done_where_possible words shelf status.NotShown text c s a = absurd a
+
+-- what a file gives is the answer to the words that name it
+pub answer_of_file : (words : List (List ℕ)) (shelf : Shelf) (asked : Question) (name : List ℕ) (given : Status) (text : List ℕ) → question_of words ≡ Some asked
+    → name ≡ room_name words → IsFileAnswer asked shelf name given text → IsAnswer words shelf given text
+answer_of_file words shelf asked name status.Done text q e a = record { asked = asked; command = q; answer = subst (λ (n : List ℕ). IsFileAnswer asked shelf n status.Done text) e a }
+answer_of_file words shelf asked name status.Refused text q e a = record { asked = asked; command = q; answer = subst (λ (n : List ℕ). IsFileAnswer asked shelf n status.Refused text) e a }
+answer_of_file words shelf asked name status.ReadFault text q e a = record { asked = asked; command = q; answer = subst (λ (n : List ℕ). IsFileAnswer asked shelf n status.ReadFault text) e a }
+answer_of_file words shelf asked name status.Usage text q e a = absurd a
+answer_of_file words shelf asked name status.WriteFault text q e a = absurd a
+answer_of_file words shelf asked name status.Memory text q e a = absurd a
+answer_of_file words shelf asked name status.Missed text q e a = absurd a
+answer_of_file words shelf asked name status.Undecided text q e a = absurd a
+answer_of_file words shelf asked name status.NotShown text q e a = absurd a
 
 fault_or_not : (s : Status) → (s ≡ status.WriteFault) ⊎ (s ≢ status.WriteFault)
 fault_or_not status.WriteFault = inl refl
@@ -93,7 +135,7 @@ fault_or_not status.NotShown = inr (λ e. cc)
 
 pub complete_written : (words : List (List ℕ)) (shelf : Shelf) (given result : Status) (text : List ℕ) (before now : ℕ)
     → (result ≢ status.WriteFault → result ≡ given) → (result ≡ status.WriteFault → Rose before now) → Stood before now
-    → IsAnswer words shelf given text → CanReport words shelf.files → Stood shelf.faults_before shelf.faults_now
+    → IsAnswer words shelf given text → CanAnswer words shelf.files → Stood shelf.faults_before shelf.faults_now
     → (result ≡ status.Done) ⊎ (result ≡ status.Memory)
 complete_written words shelf given result text before now same rose out answer can stood = elim (fault_or_not result) [
   | inl f ↦ absurd (let r = rose f in omega (arith, r, out.0, out.1))

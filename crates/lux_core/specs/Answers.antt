@@ -1,20 +1,27 @@
 -- What a run of the planner may answer: which text goes with which status, and what was the cause.
-use Rattle.std.specs.Prelude.{ℕ, ◌≡◌, ◌≢◌, ◌+◌, ◌<◌, ◌≤◌, ◌⊎◌, List, ◌++◌, length, sum_by, codes, Option, Some, None, IfSome, IsSomeAnd, Ok, Err}
+use Rattle.std.specs.Prelude.{ℕ, ◌≡◌, ◌≢◌, ◌+◌, ◌<◌, ◌≤◌, ◌⊎◌, List, [], ◌++◌, length, codes, decimal, Option, Some, None, IfSome, IsSomeAnd, Ok, Err}
+use Rattle.decimal_text.specs.Decimals.{thousandths}
+use Rattle.grid_report.specs.Headline.{IsRight}
+use Rattle.grid_report.specs.Printed.{Report, line, report_text}
 use Rattle.lux_io.specs.Files.{bytes_of, Rose}
 use Rattle.lux_io.specs.declared.take.TakeFault.{TakeFault}
 use Rattle.lux_io.specs.declared.take.TakeFault.TheVariants as take
 use Rattle.room_layout.specs.FaultText.{fault_text}
 use Rattle.room_layout.specs.Layout.{built_room_of}
+use Rattle.room_layout.specs.Place.{Place, place_of}
 use Rattle.room_layout.specs.declared.fault.RoomFault.{RoomFault}
 use Rattle.room_layout.specs.declared.fault.RoomFault.TheVariants as room_fault
-use Rattle.room_layout.specs.declared.room.Lamp.{Lamp}
-use Rattle.room_layout.specs.declared.room.Shine.TheVariants.{Even, File}
 use Rattle.room_layout.specs.declared.room.Room.{Room}
-use Rattle.lux_core.specs.Commands.{report_name, usage_line}
-use Rattle.lux_core.specs.Headline.{IsRight}
-use Rattle.lux_core.specs.Printed.{Report, line, report_text}
+use Rattle.scene_system.specs.Causes.{IsCause, IsWithinLimits}
+use Rattle.scene_system.specs.RowSums.{MayBeHeavy, NoneIsHeavy, IsMild}
+use Rattle.scene_system.specs.declared.fault.SceneFault.{SceneFault}
+use Rattle.scene_system.specs.declared.fault.SceneFault.TheVariants as scene_fault
+use Rattle.sight_line.specs.Sight.{IsFirstMet, NoneMet}
+use Rattle.lux_core.specs.Commands.{question_of, room_name, usage_line}
 use Rattle.lux_core.specs.declared.status.Status.{Status}
 use Rattle.lux_core.specs.declared.status.Status.TheVariants as status
+use Rattle.lux_core.specs.declared.words.Question.{Question}
+use Rattle.lux_core.specs.declared.words.Question.TheVariants as question
 
 -- ---- what the shelf held and counted in a run
 
@@ -38,27 +45,84 @@ pub record WereRead (shelf : Shelf) (name bytes : List ℕ) : Type 0 where
   pub taken : shelf.taken ≡ length bytes
   pub few : length bytes ≤ longest_file
 
--- ---- the greatest intensity of all lamps together
+-- ---- what is said of an accepted room: its report
 
-abbrev pub candela_of : Lamp → ℕ
-candela_of l = elim l.shine [ Even candela ↦ candela | File file ↦ 0 ]
-
-abbrev pub total_candela : Room → ℕ
-total_candela room = sum_by candela_of room.lamps
-
-abbrev pub greatest_candela : ℕ
-greatest_candela = 10000000
-
--- ---- what the bytes of a room file give
-
--- the layout is accepted and its lamps aren't too bright, and this is a right report of the room
-pub record IsRoomReport (bytes text : List ℕ) : Type 0 where
-  pub room : Room
-  pub accepted : built_room_of bytes ≡ Ok room
-  pub dim : total_candela room ≤ greatest_candela
+-- a right report, of a room within its limits that has no heavy row
+pub record IsReport (room : Room) (text : List ℕ) : Type 0 where
+  pub within : IsWithinLimits room
+  pub mild : NoneIsHeavy room
   pub report : Report
   pub text_is : text ≡ report_text report
   pub right : IsRight room report
+
+abbrev pub scene_fault_text : SceneFault → List ℕ
+scene_fault_text scene_fault.TotalIntensity = codes "1 TotalIntensity"
+scene_fault_text (scene_fault.TooManyPatches count) = codes "2 TooManyPatches " ++ decimal count
+scene_fault_text scene_fault.NoTaskPoint = codes "3 NoTaskPoint"
+scene_fault_text scene_fault.Memory = []
+
+-- its lamps are too bright, its patches too many, or its task points covered
+pub record HasNoScene (room : Room) (text : List ℕ) : Type 0 where
+  pub fault : SceneFault
+  pub no_want : fault ≢ scene_fault.Memory
+  pub cause : IsCause room fault
+  pub text_is : text ≡ line (codes "refused scene " ++ scene_fault_text fault)
+
+-- a row of its coefficients adds up to too much
+pub record HasHeavyRow (room : Room) (text : List ℕ) : Type 0 where
+  pub within : IsWithinLimits room
+  pub row : ℕ
+  pub sum : ℕ
+  pub heavy : MayBeHeavy room row sum
+  pub text_is : text ≡ line (codes "refused rows 1 RowSum " ++ decimal row ++ codes " " ++ thousandths sum)
+
+abbrev pub IsReportAnswer : Room → Status → List ℕ → Type 0
+IsReportAnswer room status.Done text = IsReport room text
+IsReportAnswer room status.Refused text = HasNoScene room text ⊎ HasHeavyRow room text
+IsReportAnswer room status.Usage text = ⊥
+IsReportAnswer room status.ReadFault text = ⊥
+IsReportAnswer room status.WriteFault text = ⊥
+IsReportAnswer room status.Memory text = ⊥
+IsReportAnswer room status.Missed text = ⊥
+IsReportAnswer room status.Undecided text = ⊥
+IsReportAnswer room status.NotShown text = ⊥
+
+-- ---- and whether two of its places see each other
+
+-- the way between them meets no box
+pub record IsClear (room : Room) (p q : Place) (text : List ℕ) : Type 0 where
+  pub none : NoneMet room.blocks p q
+  pub text_is : text ≡ line (codes "clear")
+
+-- the first box that the way between them meets
+pub record IsBlocked (room : Room) (p q : Place) (text : List ℕ) : Type 0 where
+  pub box : ℕ
+  pub first : IsFirstMet room.blocks p q box
+  pub text_is : text ≡ line (codes "blocked " ++ decimal box)
+
+abbrev pub IsSightAnswer : Place → Place → Room → Status → List ℕ → Type 0
+IsSightAnswer p q room status.Done text = IsClear room p q text ⊎ IsBlocked room p q text
+IsSightAnswer p q room status.Refused text = ⊥
+IsSightAnswer p q room status.Usage text = ⊥
+IsSightAnswer p q room status.ReadFault text = ⊥
+IsSightAnswer p q room status.WriteFault text = ⊥
+IsSightAnswer p q room status.Memory text = ⊥
+IsSightAnswer p q room status.Missed text = ⊥
+IsSightAnswer p q room status.Undecided text = ⊥
+IsSightAnswer p q room status.NotShown text = ⊥
+
+-- what is answered to a question on a room
+abbrev pub IsSaidOf : Question → Room → Status → List ℕ → Type 0
+IsSaidOf question.Report room given text = IsReportAnswer room given text
+IsSaidOf (question.Sight p q) room given text = IsSightAnswer (place_of p) (place_of q) room given text
+
+-- ---- what the bytes of a room file give
+
+-- the layout is accepted, and this is said of its room
+pub record IsOfRoom (asked : Question) (bytes : List ℕ) (given : Status) (text : List ℕ) : Type 0 where
+  pub room : Room
+  pub accepted : built_room_of bytes ≡ Ok room
+  pub said : IsSaidOf asked room given text
 
 -- the layout is refused
 pub record IsRoomFault (bytes text : List ℕ) : Type 0 where
@@ -67,32 +131,24 @@ pub record IsRoomFault (bytes text : List ℕ) : Type 0 where
   pub no_want : fault ≢ room_fault.Memory
   pub text_is : text ≡ line (codes "refused room " ++ fault_text fault)
 
--- the lamps are too bright together
-pub record IsRoomBright (bytes text : List ℕ) : Type 0 where
-  pub room : Room
-  pub accepted : built_room_of bytes ≡ Ok room
-  pub bright : greatest_candela < total_candela room
-  pub text_is : text ≡ line (codes "refused scene 1 TotalIntensity")
-
--- what the bytes of a room file give, by status
-abbrev pub IsRoomAnswer : List ℕ → Status → List ℕ → Type 0
-IsRoomAnswer bytes status.Done text = IsRoomReport bytes text
-IsRoomAnswer bytes status.Refused text = IsRoomFault bytes text ⊎ IsRoomBright bytes text
-IsRoomAnswer bytes status.Usage text = ⊥
-IsRoomAnswer bytes status.ReadFault text = ⊥
-IsRoomAnswer bytes status.WriteFault text = ⊥
-IsRoomAnswer bytes status.Memory text = ⊥
-IsRoomAnswer bytes status.Missed text = ⊥
-IsRoomAnswer bytes status.Undecided text = ⊥
-IsRoomAnswer bytes status.NotShown text = ⊥
+abbrev pub IsRoomAnswer : Question → List ℕ → Status → List ℕ → Type 0
+IsRoomAnswer asked bytes status.Done text = IsOfRoom asked bytes status.Done text
+IsRoomAnswer asked bytes status.Refused text = IsRoomFault bytes text ⊎ IsOfRoom asked bytes status.Refused text
+IsRoomAnswer asked bytes status.Usage text = ⊥
+IsRoomAnswer asked bytes status.ReadFault text = ⊥
+IsRoomAnswer asked bytes status.WriteFault text = ⊥
+IsRoomAnswer asked bytes status.Memory text = ⊥
+IsRoomAnswer asked bytes status.Missed text = ⊥
+IsRoomAnswer asked bytes status.Undecided text = ⊥
+IsRoomAnswer asked bytes status.NotShown text = ⊥
 
 -- ---- what the name of a room file gives
 
 -- the file was read whole, and its bytes give this
-pub record IsOfBytes (shelf : Shelf) (name : List ℕ) (given_status : Status) (text : List ℕ) : Type 0 where
+pub record IsOfBytes (asked : Question) (shelf : Shelf) (name : List ℕ) (given_status : Status) (text : List ℕ) : Type 0 where
   pub bytes : List ℕ
   pub read : WereRead shelf name bytes
-  pub given : IsRoomAnswer bytes given_status text
+  pub given : IsRoomAnswer asked bytes given_status text
 
 -- there is no file of that name
 pub record IsAbsent (shelf : Shelf) (name text : List ℕ) : Type 0 where
@@ -113,36 +169,36 @@ pub record IsReadFault (shelf : Shelf) (name text : List ℕ) : Type 0 where
   pub rose : Rose shelf.faults_before shelf.faults_now
   pub taken : shelf.taken ≢ longest_file + 1
 
-abbrev pub IsFileAnswer : Shelf → List ℕ → Status → List ℕ → Type 0
-IsFileAnswer shelf name status.Done text = IsOfBytes shelf name status.Done text
-IsFileAnswer shelf name status.Refused text = IsAbsent shelf name text ⊎ (IsTooLong shelf name text ⊎ IsOfBytes shelf name status.Refused text)
-IsFileAnswer shelf name status.ReadFault text = IsReadFault shelf name text
-IsFileAnswer shelf name status.Usage text = ⊥
-IsFileAnswer shelf name status.WriteFault text = ⊥
-IsFileAnswer shelf name status.Memory text = ⊥
-IsFileAnswer shelf name status.Missed text = ⊥
-IsFileAnswer shelf name status.Undecided text = ⊥
-IsFileAnswer shelf name status.NotShown text = ⊥
+abbrev pub IsFileAnswer : Question → Shelf → List ℕ → Status → List ℕ → Type 0
+IsFileAnswer asked shelf name status.Done text = IsOfBytes asked shelf name status.Done text
+IsFileAnswer asked shelf name status.Refused text = IsAbsent shelf name text ⊎ (IsTooLong shelf name text ⊎ IsOfBytes asked shelf name status.Refused text)
+IsFileAnswer asked shelf name status.ReadFault text = IsReadFault shelf name text
+IsFileAnswer asked shelf name status.Usage text = ⊥
+IsFileAnswer asked shelf name status.WriteFault text = ⊥
+IsFileAnswer asked shelf name status.Memory text = ⊥
+IsFileAnswer asked shelf name status.Missed text = ⊥
+IsFileAnswer asked shelf name status.Undecided text = ⊥
+IsFileAnswer asked shelf name status.NotShown text = ⊥
 
 -- ---- the answer to the words
 
 -- the words are no command
 pub record IsUsage (words : List (List ℕ)) (text : List ℕ) : Type 0 where
-  pub none : report_name words ≡ None
+  pub none : question_of words ≡ None
   pub text_is : text ≡ usage_line
 
--- the words ask for a report of the room in a file, and the file gives this
-pub record IsReportAnswer (words : List (List ℕ)) (shelf : Shelf) (given_status : Status) (text : List ℕ) : Type 0 where
-  pub name : List ℕ
-  pub command : report_name words ≡ Some name
-  pub answer : IsFileAnswer shelf name given_status text
+-- the words ask something of the room in a file, and the file gives this
+pub record IsAnswerOfFile (words : List (List ℕ)) (shelf : Shelf) (given_status : Status) (text : List ℕ) : Type 0 where
+  pub asked : Question
+  pub command : question_of words ≡ Some asked
+  pub answer : IsFileAnswer asked shelf (room_name words) given_status text
 
 -- the text that goes with a status, and why
 abbrev pub IsAnswer : List (List ℕ) → Shelf → Status → List ℕ → Type 0
 IsAnswer words shelf status.Usage text = IsUsage words text
-IsAnswer words shelf status.Done text = IsReportAnswer words shelf status.Done text
-IsAnswer words shelf status.Refused text = IsReportAnswer words shelf status.Refused text
-IsAnswer words shelf status.ReadFault text = IsReportAnswer words shelf status.ReadFault text
+IsAnswer words shelf status.Done text = IsAnswerOfFile words shelf status.Done text
+IsAnswer words shelf status.Refused text = IsAnswerOfFile words shelf status.Refused text
+IsAnswer words shelf status.ReadFault text = IsAnswerOfFile words shelf status.ReadFault text
 IsAnswer words shelf status.WriteFault text = ⊥
 IsAnswer words shelf status.Memory text = ⊥
 IsAnswer words shelf status.Missed text = ⊥
@@ -157,17 +213,22 @@ IsFaultAnswer name take.TooLong given text = (given ≡ status.Refused) × (text
 IsFaultAnswer name take.Failed given text = (given ≡ status.ReadFault) × (text ≡ line (codes "read fault " ++ name))
 IsFaultAnswer name take.Memory given text = ⊥
 
--- ---- where a report has to be given
+-- ---- where an answer has to be given
 
--- the words ask for a room whose file is on the shelf and is not too long, and whose layout and lamps are accepted
-pub record CanReport (words : List (List ℕ)) (files : Option (List (List ℕ × List ℕ))) : Type 0 where
-  pub name : List ℕ
-  pub command : report_name words ≡ Some name
+-- a report can be given of a room within its limits whose rows are mild; sight in every room
+abbrev pub IsAble : Question → Room → Type 0
+IsAble question.Report room = IsWithinLimits room × IsMild room
+IsAble (question.Sight p q) room = Unit {0}
+
+-- the words ask something of a room whose file is on the shelf and is not too long, whose layout is accepted, and of which it can be told
+pub record CanAnswer (words : List (List ℕ)) (files : Option (List (List ℕ × List ℕ))) : Type 0 where
+  pub asked : Question
+  pub command : question_of words ≡ Some asked
   pub told : List (List ℕ × List ℕ)
   pub files_are : files ≡ Some told
   pub bytes : List ℕ
-  pub found : bytes_of name told ≡ Some bytes
+  pub found : bytes_of (room_name words) told ≡ Some bytes
   pub few : length bytes ≤ longest_file
   pub room : Room
   pub accepted : built_room_of bytes ≡ Ok room
-  pub dim : total_candela room ≤ greatest_candela
+  pub able : IsAble asked room

@@ -1,7 +1,12 @@
 -- Which words are a command. Words are compared byte for byte, and nothing else is an option.
-use Rattle.std.specs.Prelude.{ℕ, Bool, not, ◌&&◌, ◌==◌, nat_le, List, [], ◌∷◌, length, codes, Option, Some, None, if◌then◌else◌}
+use Rattle.std.specs.Prelude.{ℕ, Bool, false, not, ◌+◌, ◌-◌, ◌*◌, ◌&&◌, ◌||◌, ◌==◌, nat_le, List, [], ◌∷◌, length, codes, slice_index_or, Option, Some, None, if◌then◌else◌}
 use Rattle.std.specs.List.{list_all}
 use Rattle.std.specs.Str.{bytes_eq}
+use Rattle.room_layout.specs.Place.{point_of, place_of_size}
+use Rattle.lux_core.specs.declared.words.Question.{Question}
+use Rattle.lux_core.specs.declared.words.Question.TheVariants.{Report, Sight}
+
+-- ---- the names of files
 
 -- a byte that may stand in the name of a file: no control character
 abbrev pub is_plain : ℕ → Bool
@@ -11,12 +16,63 @@ is_plain b = nat_le 32 b && not (b == 127)
 abbrev pub names_file : List ℕ → Bool
 names_file word = nat_le 1 (length word) && nat_le (length word) 4096 && list_all is_plain word
 
--- the name of the room file in `report ROOM`
-abbrev pub report_name : List (List ℕ) → Option (List ℕ)
-report_name [] = None
-report_name (command ∷ []) = None
-report_name (command ∷ name ∷ []) = if bytes_eq command (codes "report") && names_file name then Some name else None
-report_name (command ∷ name ∷ extra ∷ more) = None
+-- ---- numbers
+
+abbrev pub is_digit : ℕ → Bool
+is_digit b = nat_le 48 b && nat_le b 57
+
+-- decimal digits without a sign, and without leading zeros other than the word 0 itself
+abbrev pub is_number : List ℕ → Bool
+is_number [] = false
+is_number (first ∷ more) = list_all is_digit (first ∷ more) && (not (first == 48) || length more == 0)
+
+-- the number that more digits after n say
+unfoldable pub number_after : ℕ → List ℕ → ℕ
+number_after n [] = n
+number_after n (digit ∷ more) = number_after (n * 10 + (digit - 48)) more
+
+-- a coordinate in mm, from 0 to 100,000
+abbrev pub coordinate : List ℕ → Option ℕ
+coordinate word = if is_number word && nat_le (number_after 0 word) 100000 then Some (number_after 0 word) else None
+
+-- ---- the commands
+
+-- `report ROOM`
+abbrev pub asks_report : List (List ℕ) → Bool
+asks_report words = length words == 2 && bytes_eq (slice_index_or words 0 []) (codes "report") && names_file (slice_index_or words 1 [])
+
+-- `sight ROOM X Y Z X Y Z`
+abbrev pub asks_sight : List (List ℕ) → Bool
+asks_sight words = length words == 8 && bytes_eq (slice_index_or words 0 []) (codes "sight") && names_file (slice_index_or words 1 [])
+
+-- the coordinate in the word of this number
+abbrev pub coordinate_at : List (List ℕ) → ℕ → Option ℕ
+coordinate_at words k = coordinate (slice_index_or words k [])
+
+-- the place of three coordinates
+abbrev pub point_at : Option ℕ → Option ℕ → Option ℕ → Option Rattle.room_layout.specs.declared.geometry.Point.Point
+point_at (Some x) (Some y) (Some z) = Some (point_of (place_of_size (record { x = x; y = y; z = z })))
+point_at (Some x) (Some y) None = None
+point_at (Some x) None z = None
+point_at None y z = None
+
+-- the question whether two points see each other
+abbrev pub sight_between : Option Rattle.room_layout.specs.declared.geometry.Point.Point → Option Rattle.room_layout.specs.declared.geometry.Point.Point → Option Question
+sight_between (Some p) (Some q) = Some (Sight p q)
+sight_between (Some p) None = None
+sight_between None q = None
+
+-- what the words ask of a room
+abbrev pub question_of : List (List ℕ) → Option Question
+question_of words =
+    if asks_report words then Some Report
+    else (if asks_sight words
+    then sight_between (point_at (coordinate_at words 2) (coordinate_at words 3) (coordinate_at words 4)) (point_at (coordinate_at words 5) (coordinate_at words 6) (coordinate_at words 7))
+    else None)
+
+-- the name of the room's file
+abbrev pub room_name : List (List ℕ) → List ℕ
+room_name words = slice_index_or words 1 []
 
 abbrev pub usage_line : List ℕ
 usage_line = codes "usage: lux report ROOM | grid ROOM | read FILE [SET] | sight ROOM X Y Z X Y Z | certify ROOM | check ROOM CLAIM | trial N\n"

@@ -1,13 +1,4 @@
 pub mod Answers
 pub mod Codes
 pub mod Commands
-pub mod Headline
-pub mod Laws
-pub mod Light
-pub mod PointValues
-pub mod Positions
-pub mod Printed
-pub mod Reports
-pub mod Scene
-pub mod Sums
-pub mod Tests
+pub mod Questions

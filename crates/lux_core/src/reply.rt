@@ -1,25 +1,20 @@
 // The status and the text of a run, made whole before anything is written.
-ghost use Rattle.std.specs.Prelude.{◌≡◌, ◌≢◌, ◌+◌, ◌*◌, ◌^◌, ◌<◌, ◌≤◌, All, IfOk, IfSome, OnErr, length, sum_by, string_bytes, map, Some, None};
-ghost use Rattle.lux_io.specs.Files.{bytes_of, Rose};
-ghost use Rattle.room_layout.specs.Accepted.{IsAccepted, IsPlain};
-ghost use Rattle.lux_core.specs.Answers.{candela_of, IsFaultAnswer, IsFileAnswer, IsRoomAnswer};
-ghost use Rattle.lux_core.specs.Commands.{report_name};
-ghost use Rattle.lux_core.specs.Headline.{IsRight};
-ghost use Rattle.lux_core.specs.Positions.{IsDim};
-ghost use Rattle.lux_core.specs.Printed.{report_text, Report};
+ghost use Rattle.std.specs.Prelude.{◌≡◌, ◌≢◌, IfOk, string_bytes};
+ghost use Rattle.room_layout.specs.Place.{place_of};
+ghost use Rattle.sight_line.specs.Reach.{IsInReach};
+ghost use Rattle.lux_core.specs.Answers.{IsFaultAnswer, IsFileAnswer, IsRoomAnswer, IsSightAnswer};
+ghost use Rattle.lux_core.specs.Questions.{IsInRange};
 
-use crate::points::points_of;
+use crate::report::reply_of_report;
 use crate::status::Status;
-use crate::text::text_of_report;
+use crate::words::Question;
 use lux_io::{Shelf, TakeFault, take_file};
-use room_layout::{Lamp, Room, RoomFault, Shine, read_room};
+use room_layout::{Point, Room, RoomFault, read_room};
+use sight_line::blocked_by;
 use std::alloc::{AllocError, Global};
 
 /// The greatest number of bytes of a file.
 const LONGEST_FILE: usize = 16_777_216;
-
-/// The greatest intensity of all lamps together, in candela.
-const GREATEST_CANDELA: u64 = 10_000_000;
 
 /// How a run ends, and the text that it writes.
 #[derive(Drop)]
@@ -28,35 +23,29 @@ pub struct Reply {
     pub text: String,
 }
 
-/// The intensity of all lamps together, in candela.
-fn total_of(lamps: &[Lamp]) -> u64
-    requires few { length lamps.now ≤ 256 }
-    requires dim { All IsDim lamps.now }
-    ensures { result ≡ sum_by candela_of lamps.now }
+/// Whether two points of a room see each other: the first box between them, if there is one.
+fn reply_of_sight(alloc: Global, room: &Room, from: Point, to: Point) -> Result<Reply, AllocError>
+    requires from { IsInReach from }
+    requires to { IsInReach to }
+    ensures { IfOk result (λ r. IsSightAnswer (place_of from) (place_of to) room.now r.status (string_bytes r.text)) }
 {
-    let mut total = 0;
-    for lamp in lamps {
-        if let Shine::Even(candela) = lamp.shine {
-            total += candela as u64;
+    let status = Status::Done;
+    match blocked_by(room.blocks.as_slice(), from, to) {
+        None => {
+            let text = String::from_str(alloc, "clear\n")?;
+            Ok(Reply { status, text })
+        }
+        Some(index) => {
+            let text = format!(in alloc; "blocked {index}\n")?;
+            Ok(Reply { status, text })
         }
     }
-    total
-}
-
-/// The report of a room.
-fn report_of(alloc: Global, room: &Room) -> Result<String, AllocError>
-    requires accepted { IsAccepted room.now }
-    requires plain { IsPlain room.now }
-    ensures { IfOk result (λ s. (r : Report) × IsRight room.now r × (string_bytes s ≡ report_text r)) }
-{
-    let values = points_of(alloc, room)?;
-    let text = text_of_report(alloc, room.task.nx, values.as_slice())?;
-    Ok(text)
 }
 
 /// The answer to the bytes of a room file.
-fn reply_to_room(alloc: Global, bytes: &[u8]) -> Result<Reply, AllocError>
-    ensures { IfOk result (λ r. IsRoomAnswer bytes.now r.status (string_bytes r.text)) }
+fn reply_to_room(alloc: Global, asked: Question, bytes: &[u8]) -> Result<Reply, AllocError>
+    requires { IsInRange asked }
+    ensures { IfOk result (λ r. IsRoomAnswer asked bytes.now r.status (string_bytes r.text)) }
 {
     let room = match read_room(alloc, bytes) {
         Ok(room) => room,
@@ -68,14 +57,16 @@ fn reply_to_room(alloc: Global, bytes: &[u8]) -> Result<Reply, AllocError>
             return Ok(Reply { status, text });
         }
     };
-    if total_of(room.lamps.as_slice()) > GREATEST_CANDELA {
-        let text = String::from_str(alloc, "refused scene 1 TotalIntensity\n")?;
-        let status = Status::Refused;
-        return Ok(Reply { status, text });
+    match asked {
+        Question::Report => {
+            let reply = reply_of_report(alloc, &room)?;
+            Ok(reply)
+        }
+        Question::Sight(from, to) => {
+            let reply = reply_of_sight(alloc, &room, from, to)?;
+            Ok(reply)
+        }
     }
-    let text = report_of(alloc, &room)?;
-    let status = Status::Done;
-    Ok(Reply { status, text })
 }
 
 /// The answer to a file that wasn't taken.
@@ -102,14 +93,20 @@ fn reply_to_fault(alloc: Global, name: &str, fault: TakeFault) -> Result<Reply, 
     }
 }
 
-/// The answer to `report NAME`, made whole before anything is written.
-pub fn reply_to<S: Shelf>(alloc: Global, name: &str, shelf: &mut S) -> Result<Reply, AllocError>
+/// The answer to what is asked of the room in a file, made whole before anything is written.
+pub fn reply_to<S: Shelf>(
+    alloc: Global,
+    asked: Question,
+    name: &str,
+    shelf: &mut S,
+) -> Result<Reply, AllocError>
+    requires { IsInRange asked }
     ensures files { S.files shelf.new ≡ S.files shelf.old }
-    ensures answered { IfOk result (λ r. IsFileAnswer (record { files = S.files shelf.old; absences_before = S.absences shelf.old; absences_now = S.absences shelf.new; faults_before = S.faults shelf.old; faults_now = S.faults shelf.new; taken = S.taken shelf.new }) name.now r.status (string_bytes r.text)) }
+    ensures answered { IfOk result (λ r. IsFileAnswer asked (record { files = S.files shelf.old; absences_before = S.absences shelf.old; absences_now = S.absences shelf.new; faults_before = S.faults shelf.old; faults_now = S.faults shelf.new; taken = S.taken shelf.new }) name.now r.status (string_bytes r.text)) }
 {
     match take_file(alloc, shelf, name, LONGEST_FILE) {
         Ok(bytes) => {
-            let reply = reply_to_room(alloc, bytes.as_slice())?;
+            let reply = reply_to_room(alloc, asked, bytes.as_slice())?;
             Ok(reply)
         }
         Err(fault) => {

@@ -1,12 +1,12 @@
 // The top call: from the words to the text.
 ghost use Rattle.std.specs.Prelude.{◌≡◌, ◌≢◌, ℕ, ◌⊎◌, List, map, string_bytes, None};
 ghost use Rattle.lux_io.specs.Files.{with_bytes, AddsPrefix, Rose, Stood};
-ghost use Rattle.lux_core.specs.Answers.{CanReport, IsAnswer};
-ghost use Rattle.lux_core.specs.Commands.{report_name};
+ghost use Rattle.lux_core.specs.Answers.{CanAnswer, IsAnswer};
+ghost use Rattle.lux_core.specs.Commands.{question_of};
 
 use crate::reply::reply_to;
 use crate::status::Status;
-use crate::words::{USAGE, report_of};
+use crate::words::{USAGE, question_of, room_name};
 use lux_io::{Sink, put_all};
 use std::alloc::Global;
 
@@ -24,7 +24,8 @@ fn written<O: Sink>(out: &mut O, status: Status, text: &[u8]) -> Status
 }
 
 /// Runs a command: `report ROOM` reads a room layout from the shelf and writes the illuminance at its task points, the average
-/// and the uniformity. `words` are those after the program's name.
+/// and the uniformity; `sight ROOM X Y Z X Y Z` writes whether a box of the room stands between two points, in mm, and which is the
+/// first. `words` are those after the program's name.
 ///
 /// The text is made whole before its first byte is written, and what it says is proved: see the definitions `IsAnswer` and
 /// `IsRight`.
@@ -39,16 +40,16 @@ pub fn lux<S: lux_io::Shelf, O: Sink>(
     // Where the sink failed, a proper prefix was written of a text that would have been the answer.
     ensures cut_short { result ≡ Status.WriteFault → (text : List ℕ) × (status : Status) × AddsPrefix (O.written out.old) (O.written out.new) text × IsAnswer (map string_bytes words.now) (record { files = S.files shelf.old; absences_before = S.absences shelf.old; absences_now = S.absences shelf.new; faults_before = S.faults shelf.old; faults_now = S.faults shelf.new; taken = S.taken shelf.new }) status text }
     ensures write_fault { result ≡ Status.WriteFault → Rose (O.faults out.old) (O.faults out.new) }
-    // Where a report can be given and nothing fails, only want of memory is answered in its place.
-    ensures complete { CanReport (map string_bytes words.now) (S.files shelf.old) → Stood (S.faults shelf.old) (S.faults shelf.new) → Stood (O.faults out.old) (O.faults out.new) → (result ≡ Status.Done) ⊎ (result ≡ Status.Memory) }
+    // Where an answer can be given and nothing fails, only want of memory is answered in its place.
+    ensures complete { CanAnswer (map string_bytes words.now) (S.files shelf.old) → Stood (S.faults shelf.old) (S.faults shelf.new) → Stood (O.faults out.old) (O.faults out.new) → (result ≡ Status.Done) ⊎ (result ≡ Status.Memory) }
     // Without memory nothing is written, and words that are no command want none.
     ensures memory { result ≡ Status.Memory → O.written out.new ≡ O.written out.old }
-    ensures usage_needs_none { report_name (map string_bytes words.now) ≡ None → result ≢ Status.Memory }
+    ensures usage_needs_none { question_of (map string_bytes words.now) ≡ None → result ≢ Status.Memory }
 {
-    let Some(name) = report_of(words) else {
+    let Some(asked) = question_of(words) else {
         return written(out, Status::Usage, USAGE.as_bytes());
     };
-    let Ok(reply) = reply_to(alloc, name, shelf) else {
+    let Ok(reply) = reply_to(alloc, asked, room_name(words), shelf) else {
         return Status::Memory;
     };
     written(out, reply.status, reply.text.as_bytes())

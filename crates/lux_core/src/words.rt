@@ -1,10 +1,27 @@
 // The words of the command line.
-ghost use Rattle.std.specs.Prelude.{◌≡◌, map, string_bytes};
-ghost use Rattle.std.specs.Option.{option_copied};
+ghost use Rattle.std.specs.Prelude.{◌≡◌, ◌*◌, ◌<◌, ◌≤◌, min, map, string_bytes, length, slice_index_or, [], IfSome, pos};
 ghost use Rattle.std.specs.List.{list_all};
-ghost use Rattle.lux_core.specs.Commands.{is_plain, names_file, report_name};
+ghost use Rattle.std.specs.Option.{option_map};
+ghost use Rattle.room_layout.specs.Place.{place_of_size, point_of};
+ghost use Rattle.sight_line.specs.Reach.{IsInReach};
+ghost use Rattle.lux_core.specs.Commands.{coordinate, coordinate_at, is_digit, is_number, is_plain, names_file, number_after, point_at, question_of, room_name, sight_between};
+ghost use Rattle.lux_core.specs.Questions.{IsInRange};
+
+use room_layout::Point;
 
 const LONGEST_NAME: usize = 4096;
+
+/// The greatest coordinate in mm.
+const GREATEST_COORDINATE: u32 = 100_000;
+
+/// What is asked of a room.
+#[derive(Clone, Copy, Debug, PartialEq, Eq)]
+pub enum Question {
+    /// The report of its task points.
+    Report,
+    /// Whether two points, in half mm, see each other.
+    Sight(Point, Point),
+}
 
 /// Whether no byte is a control character.
 fn is_plain_text(bytes: &[u8]) -> bool
@@ -24,20 +41,108 @@ fn is_file_name(word: &str) -> bool
     is_plain_text(bytes)
 }
 
-/// The name of the room file where the words are `report ROOM`.
-pub fn report_of(words: &[String]) -> Option<&str>
-    ensures { option_copied result ≡ report_name (map string_bytes words.now) }
+/// Whether all bytes are decimal digits.
+fn are_digits(bytes: &[u8]) -> bool
+    ensures { result ≡ list_all is_digit bytes.now }
 {
-    if words.len() != 2 {
+    bytes.iter().all(|byte| 48 <= *byte && *byte <= 57)
+}
+
+/// Whether a word is a number: decimal digits without sign, and without leading zeros other than the word 0.
+fn is_number(bytes: &[u8]) -> bool
+    ensures { result ≡ is_number bytes.now }
+{
+    if bytes.is_empty() {
+        return false;
+    }
+    if bytes[0] == 48 && bytes.len() != 1 {
+        return false;
+    }
+    are_digits(bytes)
+}
+
+/// The number that digits say, and a million where it is more.
+fn number_of(bytes: &[u8]) -> u32
+    requires { list_all is_digit bytes.now ≡ Rattle.std.specs.Prelude.true }
+    ensures { result ≡ min (number_after 0 bytes.now) 1000000 }
+{
+    let mut number = 0u32;
+    for byte in bytes {
+        number = (number * 10 + (*byte - 48) as u32).min(1_000_000);
+    }
+    number
+}
+
+/// The coordinate in mm that a word says.
+fn coordinate_of(word: &str) -> Option<u32>
+    ensures coordinate { result ≡ coordinate word.now }
+    ensures within { IfSome result (λ c. c ≤ 100000) }
+{
+    let bytes = word.as_bytes();
+    if !is_number(bytes) {
+        return None;
+    }
+    let number = number_of(bytes);
+    if GREATEST_COORDINATE < number {
+        return None;
+    }
+    Some(number)
+}
+
+/// The point, in half mm, whose coordinates in mm three words say.
+fn point_of(x: &str, y: &str, z: &str) -> Option<Point>
+    ensures point { result ≡ point_at (coordinate x.now) (coordinate y.now) (coordinate z.now) }
+    ensures within { IfSome result IsInReach }
+{
+    let x = coordinate_of(x)?;
+    let y = coordinate_of(y)?;
+    let z = coordinate_of(z)?;
+    Some(Point {
+        x: (2 * x) as i32,
+        y: (2 * y) as i32,
+        z: (2 * z) as i32,
+    })
+}
+
+/// What `sight ROOM X Y Z X Y Z` asks, where its numbers are coordinates.
+fn sight_of(words: &[String]) -> Option<Question>
+    requires { length words.now ≡ 8 }
+    ensures asked { result ≡ sight_between (point_at (coordinate_at (map string_bytes words.now) 2) (coordinate_at (map string_bytes words.now) 3) (coordinate_at (map string_bytes words.now) 4)) (point_at (coordinate_at (map string_bytes words.now) 5) (coordinate_at (map string_bytes words.now) 6) (coordinate_at (map string_bytes words.now) 7)) }
+    ensures within { IfSome result IsInRange }
+{
+    let from = point_of(words[2].as_str(), words[3].as_str(), words[4].as_str())?;
+    let to = point_of(words[5].as_str(), words[6].as_str(), words[7].as_str())?;
+    Some(Question::Sight(from, to))
+}
+
+/// What the words ask of the room whose file is named by the second of them; nothing where they are no command.
+pub fn question_of(words: &[String]) -> Option<Question>
+    ensures asked { result ≡ question_of (map string_bytes words.now) }
+    ensures within { IfSome result IsInRange }
+    ensures named { IfSome result (λ _. 2 ≤ length words.now) }
+{
+    if words.len() < 2 {
         return None;
     }
     let command = words[0].as_str();
-    let name = words[1].as_str();
-    if command == "report" && is_file_name(name) {
-        Some(name)
-    } else {
-        None
+    if !is_file_name(words[1].as_str()) {
+        return None;
     }
+    if words.len() == 2 && command == "report" {
+        return Some(Question::Report);
+    }
+    if words.len() == 8 && command == "sight" {
+        return sight_of(words);
+    }
+    None
+}
+
+/// The name of the room's file.
+pub fn room_name(words: &[String]) -> &str
+    requires { 2 ≤ length words.now }
+    ensures { result.now ≡ room_name (map string_bytes words.now) }
+{
+    words[1].as_str()
 }
 
 /// The line that is written where the words are no command.

@@ -1,0 +1,134 @@
+#!/usr/bin/env python3
+"""A second planner, in plain double precision and with none of Lux's code: the values against which the tests compare.
+
+usage: expected.py ROOM.toml
+
+It cuts the room and its boxes into patches, solves the radiosity equations by Gauss-Seidel until nothing moves by more than
+1e-10 lux, and prints the value at each task point, the average and the uniformity with six decimals. It serves even lamps, boxes
+and reflecting surfaces, and claims nothing of its own rounding, which is far below a printed hundredth.
+"""
+import math
+import sys
+import tomllib
+from pathlib import Path
+
+UP, DOWN, EAST, WEST, NORTH, SOUTH = (2, 1), (2, -1), (0, 1), (0, -1), (1, 1), (1, -1)
+
+
+def tiles(face, lo, hi, reflect, longest):
+    """The patches of a rectangle: centre in mm, face, area, reflectance; by the second axis, then the first."""
+    first, second = [axis for axis in range(3) if axis != face[0]]
+
+    def cuts(axis):
+        edge = hi[axis] - lo[axis]
+        parts = -(-edge // longest)
+        ends = [lo[axis] + edge * i // parts for i in range(parts + 1)]
+        return list(zip(ends, ends[1:]))
+
+    for a, b in cuts(second):
+        for c, d in cuts(first):
+            centre = list(lo)
+            centre[first] = (c + d) / 2
+            centre[second] = (a + b) / 2
+            yield centre, face, (b - a) * (d - c), reflect
+
+
+def surfaces(room, boxes):
+    x, y, z = room["size"]
+    floor, ceiling, x0, x1, y0, y1 = room.get("reflect", [0] * 6)
+    yield UP, (0, 0, 0), (x, y, 0), floor
+    yield DOWN, (0, 0, z), (x, y, z), ceiling
+    yield EAST, (0, 0, 0), (0, y, z), x0
+    yield WEST, (x, 0, 0), (x, y, z), x1
+    yield NORTH, (0, 0, 0), (x, 0, z), y0
+    yield SOUTH, (0, y, 0), (x, y, z), y1
+    for box in boxes:
+        (a, b, c), (d, e, f), reflect = box["lo"], box["hi"], box.get("reflect", 0)
+        yield DOWN, (a, b, c), (d, e, c), reflect
+        yield UP, (a, b, f), (d, e, f), reflect
+        yield WEST, (a, b, c), (a, e, f), reflect
+        yield EAST, (d, b, c), (d, e, f), reflect
+        yield SOUTH, (a, b, c), (d, b, f), reflect
+        yield NORTH, (a, e, c), (d, e, f), reflect
+
+
+def blocked(boxes, p, q):
+    """Whether the segment holds a point of the open inside of a box: by clipping its parameter between the planes."""
+    for box in boxes:
+        least, most, met = 0.0, 1.0, True
+        for axis in range(3):
+            lo, hi, at, way = box["lo"][axis], box["hi"][axis], p[axis], q[axis] - p[axis]
+            if way == 0:
+                met = met and lo < at < hi
+            else:
+                ends = sorted(((lo - at) / way, (hi - at) / way))
+                least, most = max(least, ends[0]), min(most, ends[1])
+        if met and (least < most or (p == q and least <= most)):
+            return True
+    return False
+
+
+def front(p, face, q):
+    return (q[face[0]] - p[face[0]]) * face[1]
+
+
+def coefficient(boxes, p, face, patch):
+    centre, other, area, reflect = patch
+    a, b = front(p, face, centre), front(centre, other, p)
+    if a <= 0 or b <= 0 or reflect == 0 or blocked(boxes, p, centre):
+        return 0.0
+    square = math.dist(p, centre) ** 2
+    return reflect / 1000 * a * b / square * area / (math.pi * square + area)
+
+
+def direct(boxes, lamps, p, face):
+    light = 0.0
+    for lamp in lamps:
+        a = front(p, face, lamp["at"])
+        if a > 0 and not blocked(boxes, list(map(float, lamp["at"])), p):
+            light += lamp["candela"] * a * 1e6 / math.dist(p, lamp["at"]) ** 3
+    return light
+
+
+def main():
+    document = tomllib.loads(Path(sys.argv[1]).read_text())
+    room, task = document["room"], document["task"]
+    boxes, lamps = document.get("box", []), document.get("lamp", [])
+    patches = [t for s in surfaces(room, boxes) for t in tiles(*s, room.get("patch", 600))]
+    rows = [[coefficient(boxes, p[0], p[1], other) for other in patches] for p in patches]
+    light = [direct(boxes, lamps, p[0], p[1]) for p in patches]
+    greatest = max(map(sum, rows))
+    print("patches", len(patches), "greatest row sum", f"{greatest:.6f}", "of row", [sum(r) for r in rows].index(greatest))
+    if greatest >= 1:
+        return
+    solved, moved = light[:], 1.0
+    while moved > 1e-10:
+        moved = 0.0
+        for i, row in enumerate(rows):
+            new = light[i] + sum(k * h for k, h in zip(row, solved) if k)
+            moved = max(moved, abs(new - solved[i]))
+            solved[i] = new
+    values = []
+    columns, lines = task["points"]
+    for j in range(lines):
+        for i in range(columns):
+            # half mm, rounded down
+            def middle(axis, parts, k):
+                edge = task["to"][axis] - task["from"][axis]
+                return (2 * task["from"][axis] + (2 * k + 1) * edge // parts) / 2
+
+            p = [middle(0, columns, i), middle(1, lines, j), float(task["height"])]
+            if any(all(b["lo"][a] < p[a] < b["hi"][a] for a in range(3)) for b in boxes):
+                print("point", i, j, "covered")
+                continue
+            value = direct(boxes, lamps, p, UP) + sum(coefficient(boxes, p, UP, o) * h for o, h in zip(patches, solved))
+            print("point", i, j, f"{value:.6f}")
+            values.append(value)
+    if values:
+        mean = sum(values) / len(values)
+        print("average", f"{mean:.6f}")
+        print("uniformity", f"{min(values) / mean:.6f}" if mean else "none")
+
+
+if __name__ == "__main__":
+    main()

@@ -1,5 +1,0 @@
-use Rattle.lux_core.proofs.Leasts.{IsLeastSoFar}
-use Rattle.lux_core.proofs.grid.least_ends.Given as goal
-
-abbrev pub invariant-loop-point : goal.invariant-loop-point
-invariant-loop-point l = IsLeastSoFar l.values l.point-index l.least.low l.least.high 5070602400912917605986812821504

@@ -1,0 +1,130 @@
+// The report of a room, and its refusals.
+ghost use Rattle.std.specs.Prelude.{◌≡◌, ◌≢◌, ◌++◌, codes, decimal, IfOk, string_bytes, All};
+ghost use Rattle.decimal_text.specs.Decimals.{thousandths};
+ghost use Rattle.grid_report.specs.Headline.{IsRight};
+ghost use Rattle.grid_report.specs.Printed.{line, report_text, Report};
+ghost use Rattle.interval_system.specs.System.{IsFirstHeavy, NoneHeavy};
+ghost use Rattle.radiosity_solve.specs.Bounds.{IsInOrder, IsLowerAnswer, IsUpperAnswer};
+ghost use Rattle.room_layout.specs.Accepted.{IsAccepted, IsPlainLamp};
+ghost use Rattle.scene_system.specs.Assembled.{numbers, IsSceneOf, IsWellFormed};
+ghost use Rattle.scene_system.specs.Causes.{IsCause, IsWithinLimits};
+ghost use Rattle.scene_system.specs.RowSums.{in_thousandths};
+ghost use Rattle.lux_core.specs.Answers.{IsReportAnswer, scene_fault_text};
+
+use crate::reply::Reply;
+use crate::status::Status;
+use decimal_text::milli_text;
+use grid_report::laws::{report_is_right, values_are_points};
+use grid_report::{points, report_text};
+use interval_system::Heavy;
+use radiosity_solve::{Bounds, SolveFault, solve};
+use room_layout::Room;
+use scene_system::laws::{heavy_has_cause, none_heavy_is_mild};
+use scene_system::{Scene, SceneFault, assemble};
+use std::alloc::{AllocError, Global};
+
+/// The line of a room that has no scene.
+fn refused_scene(alloc: Global, fault: SceneFault) -> Result<String, AllocError>
+    ensures want { IfOk result (λ _. fault ≢ SceneFault.Memory) }
+    ensures text { IfOk result (λ s. string_bytes s ≡ line (codes "refused scene " ++ scene_fault_text fault)) }
+{
+    match fault {
+        SceneFault::TotalIntensity => {
+            let text = String::from_str(alloc, "refused scene 1 TotalIntensity\n")?;
+            Ok(text)
+        }
+        SceneFault::TooManyPatches(count) => {
+            let text = format!(in alloc; "refused scene 2 TooManyPatches {count}\n")?;
+            Ok(text)
+        }
+        SceneFault::NoTaskPoint => {
+            let text = String::from_str(alloc, "refused scene 3 NoTaskPoint\n")?;
+            Ok(text)
+        }
+        SceneFault::Memory => Err(AllocError),
+    }
+}
+
+/// The line of a room with a heavy row, and its sum in thousandths.
+fn refused_row(alloc: Global, heavy: Heavy) -> Result<String, AllocError>
+    ensures { IfOk result (λ s. string_bytes s ≡ line (codes "refused rows 1 RowSum " ++ decimal heavy.row ++ codes " " ++ thousandths (in_thousandths heavy.upper))) }
+{
+    let thousandths = (heavy.upper as u128 * 1000).div_ceil(68_719_476_736);
+    let Ok(sum) = milli_text(alloc, thousandths) else {
+        return Err(AllocError);
+    };
+    let row = heavy.row;
+    let text = format!(in alloc; "refused rows 1 RowSum {row} {sum}\n")?;
+    Ok(text)
+}
+
+/// The text of the report of a scene of the room, from bounds of the light of its patches.
+fn text_of_report(
+    alloc: Global,
+    room: &Room,
+    scene: &Scene,
+    bounds: &Bounds,
+) -> Result<String, AllocError>
+    requires accepted { IsAccepted room.now }
+    requires formed { IsWellFormed (numbers scene.now) }
+    requires scene { IsSceneOf room.now (numbers scene.now) }
+    requires none_heavy { NoneHeavy scene.now.system.rows }
+    requires lower { IsLowerAnswer scene.now.system bounds.now.lower.items }
+    requires upper { IsUpperAnswer scene.now.system bounds.now.upper.items }
+    requires in_order { IsInOrder scene.now.system bounds.now.lower.items bounds.now.upper.items }
+    ensures { IfOk result (λ s. (r : Report) × IsRight room.now r × (string_bytes s ≡ report_text r)) }
+{
+    values_are_points();
+    report_is_right();
+    let Ok(values) = points(alloc, scene, bounds) else {
+        return Err(AllocError);
+    };
+    let Ok(text) = report_text(alloc, room.task.nx, values.as_slice()) else {
+        return Err(AllocError);
+    };
+    Ok(text)
+}
+
+/// The report of a scene of the room, or its refusal for a heavy row.
+fn reply_of_scene(alloc: Global, room: &Room, scene: &Scene) -> Result<Reply, AllocError>
+    requires accepted { IsAccepted room.now }
+    requires within { IsWithinLimits room.now }
+    requires formed { IsWellFormed (numbers scene.now) }
+    requires scene { IsSceneOf room.now (numbers scene.now) }
+    ensures { IfOk result (λ r. IsReportAnswer room.now r.status (string_bytes r.text)) }
+{
+    heavy_has_cause();
+    none_heavy_is_mild();
+    match solve(alloc, &scene.system) {
+        Ok(bounds) => {
+            let text = text_of_report(alloc, room, scene, &bounds)?;
+            let status = Status::Done;
+            Ok(Reply { status, text })
+        }
+        Err(SolveFault::RowSum(heavy)) => {
+            let text = refused_row(alloc, heavy)?;
+            let status = Status::Refused;
+            Ok(Reply { status, text })
+        }
+        Err(SolveFault::Memory) => Err(AllocError),
+    }
+}
+
+/// The report of a room, or why it has none.
+pub fn reply_of_report(alloc: Global, room: &Room) -> Result<Reply, AllocError>
+    requires accepted { IsAccepted room.now }
+    requires plain { All IsPlainLamp room.now.lamps }
+    ensures { IfOk result (λ r. IsReportAnswer room.now r.status (string_bytes r.text)) }
+{
+    match assemble(alloc, room) {
+        Ok(scene) => {
+            let reply = reply_of_scene(alloc, room, &scene)?;
+            Ok(reply)
+        }
+        Err(fault) => {
+            let text = refused_scene(alloc, fault)?;
+            let status = Status::Refused;
+            Ok(Reply { status, text })
+        }
+    }
+}

@@ -1,0 +1,159 @@
+//! Reports of rooms. Where nothing reflects, the values are worked out by hand: candela times cosine by the squared distance. The
+//! others are those of `bench/expected.py`, a planner in double precision with none of this code; each lies more than 0.001 from a
+//! printed edge.
+use super::{CALM, run};
+use crate::Status;
+use std::test::Fail;
+
+const REPORT: [&str; 2] = ["report", "room.toml"];
+
+/// A room of 6 by 6 by 3 m, its task from wall to wall on the floor.
+const HALL: &str = "version = 1\n[room]\nsize = [6000, 6000, 3000]\n";
+
+const FLOOR: &str = "[task]\nfrom = [0, 0]\nto = [6000, 6000]\nheight = 0\n";
+
+#[test]
+fn black_rooms_are_reported(rt: HostRuntime) -> Result<(), Fail> {
+    let alloc = rt.alloc();
+    for (lamps, points, text) in [
+        // 5000 / 9 = 555.5..
+        (
+            "[[lamp]]\nat = [3000, 3000, 3000]\ncandela = 5000\n",
+            "points = [1, 1]\n",
+            "point 0 0 555.55 555.56\naverage 555.55 555.56\nuniformity 0.999 1.000\n",
+        ),
+        (
+            "[[lamp]]\nat = [3000, 3000, 3000]\ncandela = 2500\n[[lamp]]\nat = [3000, 3000, 3000]\ncandela = 2500\n",
+            "points = [1, 1]\n",
+            "point 0 0 555.55 555.56\naverage 555.55 555.56\nuniformity 0.999 1.000\n",
+        ),
+        // 5100 / 9 and 5100 * 3 / 18^1.5 = 200.3469..
+        (
+            "[[lamp]]\nat = [1500, 3000, 3000]\ncandela = 5100\n",
+            "points = [2, 1]\n",
+            "point 0 0 566.66 566.67\npoint 1 0 200.34 200.35\naverage 383.50 383.51\nuniformity 0.522 0.523\n",
+        ),
+        (
+            "",
+            "points = [1, 1]\n",
+            "point 0 0 0.00 0.00\naverage 0.00 0.00\nuniformity none\n",
+        ),
+    ] {
+        let room = format!(in alloc; "{HALL}{lamps}{FLOOR}{points}")?;
+        run(
+            &rt,
+            alloc,
+            &REPORT,
+            room.as_str(),
+            &CALM,
+            Status::Done,
+            text,
+        )?;
+    }
+    Ok(())
+}
+
+/// A cube of 2 m, of six patches, with a lamp of 200 cd in its middle: 200 lux of direct light at each.
+const CUBE: &str = "version = 1\n[room]\nsize = [2000, 2000, 2000]\npatch = 2000\n";
+
+const CUBE_LAMP: &str =
+    "[[lamp]]\nat = [1000, 1000, 1000]\ncandela = 200\n[task]\nfrom = [0, 0]\nto = [2000, 2000]\nheight = 0\npoints = [1, 1]\n";
+
+#[test]
+fn a_cube_is_reported(rt: HostRuntime) -> Result<(), Fail> {
+    let alloc = rt.alloc();
+    for (reflect, text) in [
+        // 200 / (1 - (1 / (pi + 1) + 4 / (pi + 2)) / 2) = 407.9227..
+        (
+            "reflect = [500, 500, 500, 500, 500, 500]\n",
+            "point 0 0 407.92 407.93\naverage 407.92 407.93\nuniformity 0.999 1.000\n",
+        ),
+        // 200 exactly, and no end has a rounding of a hundredth
+        (
+            "",
+            "point 0 0 200.00 200.00\naverage 200.00 200.00\nuniformity 1.000 1.000\n",
+        ),
+    ] {
+        let room = format!(in alloc; "{CUBE}{reflect}{CUBE_LAMP}")?;
+        run(
+            &rt,
+            alloc,
+            &REPORT,
+            room.as_str(),
+            &CALM,
+            Status::Done,
+            text,
+        )?;
+    }
+    Ok(())
+}
+
+/// Two lamps in a room whose six surfaces differ.
+const SIX: &str =
+    "version = 1\n[room]\nsize = [4000, 3000, 2500]\nreflect = [200, 700, 500, 300, 600, 400]\n";
+
+#[test]
+fn a_room_of_six_reflectances_is_reported(rt: HostRuntime) -> Result<(), Fail> {
+    let alloc = rt.alloc();
+    let rest =
+        "patch = 1500\n[[lamp]]\nat = [1000, 1500, 2400]\ncandela = 901\n[[lamp]]\nat = [3200, 1000, 2400]\ncandela = 420\n[task]\nfrom = [500, 500]\nto = [3500, 2500]\nheight = 800\npoints = [3, 2]\n";
+    let room = format!(in alloc; "{SIX}{rest}")?;
+    // 560.323807, 537.034799, 587.628044, 535.754430, 463.577793, 401.267032; 514.264317; 0.780274
+    let text =
+        "point 0 0 560.32 560.33\npoint 1 0 537.03 537.04\npoint 2 0 587.62 587.63\npoint 0 1 535.75 535.76\npoint 1 1 463.57 463.58\npoint 2 1 401.26 401.27\naverage 514.26 514.27\nuniformity 0.780 0.781\n";
+    run(
+        &rt,
+        alloc,
+        &REPORT,
+        room.as_str(),
+        &CALM,
+        Status::Done,
+        text,
+    )?;
+    Ok(())
+}
+
+#[test]
+fn a_furnished_room_is_reported(rt: HostRuntime) -> Result<(), Fail> {
+    let alloc = rt.alloc();
+    let rest =
+        "patch = 1000\n[[box]]\nlo = [2500, 500, 0]\nhi = [3500, 1700, 750]\nreflect = 350\n[[box]]\nlo = [0, 2200, 0]\nhi = [800, 3000, 2000]\nreflect = 600\n[[lamp]]\nat = [1000, 1500, 2400]\ncandela = 899\n[[lamp]]\nat = [3200, 1000, 2400]\ncandela = 430\n[task]\nfrom = [0, 0]\nto = [4000, 3000]\nheight = 700\npoints = [4, 3]\n";
+    let room = format!(in alloc; "{SIX}{rest}")?;
+    // 432.274725, 460.977300, 282.958591, 138.494449, 556.606045, 568.153810, 279.984160, 93.364085, covered, 399.188071, 317.758152,
+    // 233.151896; 342.082844; 0.272928. The desk's points lie 50 mm above its top, beside the light that it takes from the floor.
+    let text =
+        "point 0 0 432.27 432.28\npoint 1 0 460.97 460.98\npoint 2 0 282.95 282.96\npoint 3 0 138.49 138.50\npoint 0 1 556.60 556.61\npoint 1 1 568.15 568.16\npoint 2 1 279.98 279.99\npoint 3 1 93.36 93.37\npoint 0 2 covered\npoint 1 2 399.18 399.19\npoint 2 2 317.75 317.76\npoint 3 2 233.15 233.16\naverage 342.08 342.09\nuniformity 0.272 0.273\n";
+    run(
+        &rt,
+        alloc,
+        &REPORT,
+        room.as_str(),
+        &CALM,
+        Status::Done,
+        text,
+    )?;
+    Ok(())
+}
+
+#[test]
+fn a_point_inside_a_box_is_covered(rt: HostRuntime) -> Result<(), Fail> {
+    let alloc = rt.alloc();
+    let room =
+        "version = 1\n[room]\nsize = [3000, 3000, 3000]\n[[box]]\nlo = [1000, 1000, 1000]\nhi = [2000, 2000, 2000]\n[[lamp]]\nat = [1500, 1500, 3000]\ncandela = 900\n[task]\nfrom = [0, 0]\nto = [3000, 3000]\nheight = 1500\npoints = [3, 1]\n";
+    // 900 * 1.5 / 3.25^1.5 = 230.4139..
+    let text =
+        "point 0 0 230.41 230.42\npoint 1 0 covered\npoint 2 0 230.41 230.42\naverage 230.41 230.42\nuniformity 0.999 1.000\n";
+    run(&rt, alloc, &REPORT, room, &CALM, Status::Done, text)?;
+    Ok(())
+}
+
+#[test]
+fn a_channel_of_672_patches_is_reported(rt: HostRuntime) -> Result<(), Fail> {
+    let alloc = rt.alloc();
+    let room =
+        "version = 1\n[room]\nsize = [10000, 1000, 1000]\nreflect = [700, 700, 700, 700, 700, 700]\npatch = 250\n[[lamp]]\nat = [5000, 500, 1000]\ncandela = 100\n[task]\nfrom = [0, 0]\nto = [10000, 1000]\nheight = 0\npoints = [1, 1]\n";
+    // 204.728621
+    let text = "point 0 0 204.72 204.73\naverage 204.72 204.73\nuniformity 0.999 1.000\n";
+    run(&rt, alloc, &REPORT, room, &CALM, Status::Done, text)?;
+    Ok(())
+}
