@@ -1,21 +1,12 @@
 -- The ends of the enclosure of a slope's angle are candidates that pass its tests, or the ends of the range.
-use Rattle.std.proofs.Common.{ℕ, zero, suc, ◌*◌, ◌^◌, ◌≤◌, ◌≡◌, ◌⊎◌, inl, inr, Bool, true, false, arith, refl}
-use Rattle.fx_base.specs.Fraction.{Fraction, ◌≤ᶠ◌, ◌*ᶠ◌, whole}
+use Rattle.std.proofs.Common.{ℕ, zero, suc, ◌*◌, ◌^◌, ◌≡◌, ◌⊎◌, inl, inr, Bool, true, arith, refl}
+use Rattle.fx_base.specs.Fraction.{◌≤ᶠ◌, whole}
 use Rattle.fx_base.specs.Search.{greatest, least}
 use Rattle.fx_base.specs.Root.{halved}
-use Rattle.fx_base.proofs.Order.{at_most_le}
-use Rattle.fx_base.proofs.SearchLaws.{is_true_or_false, greatest_within, least_within, least_passes}
-use Rattle.series_enclose.specs.Series.{pi, sine, cosine}
+use Rattle.fx_base.proofs.SearchLaws.{is_true_or_false, greatest_here, greatest_below, greatest_within, least_within, least_passes}
+use Rattle.series_enclose.specs.Series.{pi}
 use Rattle.series_enclose.specs.Slant.{is_below_slope, is_above_slope, slant_with, slant}
-use Rattle.series_enclose.proofs.SlantLaws.{IsBelowSlope, IsAboveSlope}
-
-greatest_here : (test : ℕ → Bool) (k : ℕ) → test (suc k) ≡ true → greatest test (suc k) ≡ suc k
-unfolding greatest
-greatest_here test k e = rw (e, greatest) refl
-
-greatest_below : (test : ℕ → Bool) (k : ℕ) → test (suc k) ≡ false → greatest test (suc k) ≡ greatest test k
-unfolding greatest
-greatest_below test k e = rw (e, greatest) refl
+use Rattle.series_enclose.proofs.SlantLaws.{IsBelowSlope, IsAboveSlope, below_is, above_is, candidate_45, end_is_45}
 
 -- the greatest number that passes does pass, or it is 0
 greatest_or_zero : (test : ℕ → Bool) (k : ℕ) → (greatest test k ≡ 0) ⊎ (test (greatest test k) ≡ true)
@@ -26,29 +17,9 @@ greatest_or_zero test (suc k) = elim (is_true_or_false (test (suc k))) [
   | inr f ↦ rw (greatest_below test k f) (greatest_or_zero test k)
 ]
 
-below_is : (n x y : ℕ) (g : Fraction) → is_below_slope (pi n) n x y g ≡ true → IsBelowSlope n x y g
-unfolding is_below_slope sine cosine
-below_is n x y g e = record {
-  squares = at_most_le (((sine n g).hi *ᶠ (sine n g).hi) *ᶠ whole x) (((cosine n g).lo *ᶠ (cosine n g).lo) *ᶠ whole y) e;
-}
-
-above_is : (n x y : ℕ) (g : Fraction) → is_above_slope (pi n) n x y g ≡ true → IsAboveSlope n x y g
-unfolding is_above_slope sine cosine
-above_is n x y g e = record {
-  squares = at_most_le (((cosine n g).hi *ᶠ (cosine n g).hi) *ᶠ whole y) (((sine n g).lo *ᶠ (sine n g).lo) *ᶠ whole x) e;
-}
-
 zero_candidate : (n j : ℕ) → j ≡ 0 → halved n j ≤ᶠ whole 0
 unfolding halved whole
 zero_candidate n j e = record { cross = omega arith }
-
-candidate_45 : (n j : ℕ) → j ≤ 45 * 2 ^ n → halved n j ≤ᶠ whole 45
-unfolding halved whole
-candidate_45 n j h = record { cross = omega arith }
-
-end_is_45 : (n j : ℕ) → 45 * 2 ^ n ≤ j → whole 45 ≤ᶠ halved n j
-unfolding halved whole
-end_is_45 n j h = record { cross = omega arith }
 
 -- the lower end is below the slope, or it is 0
 pub low_is_below : (n x y : ℕ) → ((slant n x y).lo ≤ᶠ whole 0) ⊎ IsBelowSlope n x y (slant n x y).lo

@@ -1,12 +1,12 @@
 -- What a row of the table says of a slope: the tangent of its angle is below the slope, or that of each later angle is above it.
-use Rattle.std.proofs.Common.{ℕ, zero, suc, ◌+◌, ◌*◌, ◌<◌, ◌≤◌, inl, inr, arith, lit≤, ℤ, pos, negsuc, ◌≤ℤ◌, ◌+ℤ◌}
+use Rattle.std.proofs.Common.{ℕ, ◌+◌, ◌*◌, ◌<◌, ◌≤◌, inl, inr, arith, lit≤, ℤ, pos, negsuc, ◌≤ℤ◌, ◌+ℤ◌}
 use Rattle.std.proofs.Math.Nat.{zero-lt-suc, mul-le-mul_left}
 use Rattle.std.proofs.lemmas.Int.{ints}
 use Rattle.fx_base.specs.Fraction.{Fraction, ◌≤ᶠ◌, ◌<ᶠ◌, ◌+ᶠ◌, ◌-ᶠ◌, ◌*ᶠ◌, whole, ratio}
 use Rattle.fx_base.specs.Interval.{Interval}
 use Rattle.fx_base.specs.Ends.{Ends}
 use Rattle.fx_base.specs.Units.{natural, ticks, millionths}
-use Rattle.fx_base.proofs.Order.{le_refl_f, le_trans_f, lt_le_trans_f, le_lt_trans_f, le_lt_absurd_f, lt_or_le_f, le_of_lt_f, mul_le_f, mul_lt_f, add_le_f, add_cancel_f, add_swap_f, add_right_f, zero_le_f}
+use Rattle.fx_base.proofs.Order.{le_refl_f, le_trans_f, lt_le_trans_f, le_lt_absurd_f, lt_or_le_f, le_of_lt_f, mul_lt_f, add_le_f, add_cancel_f, add_swap_f, add_right_f, zero_le_f}
 use Rattle.fx_base.proofs.Ratios.{positive_above}
 use Rattle.fx_base.proofs.Sums.{ticks_back, ticks_split}
 use Rattle.series_enclose.specs.Enclosed.{IsSine, IsCosine}
@@ -17,24 +17,11 @@ use Rattle.series_enclose.proofs.Arcs.{radians_grow_high, arc_high_one, arc_low_
 use Rattle.series_enclose.proofs.Gaps.{half, sine_upper_gap, sine_lower_strict}
 use Rattle.series_enclose.proofs.PiLaws.{pi_nested, pi_above_three}
 use Rattle.series_enclose.proofs.Sizes.{sine_below}
-use Rattle.series_enclose.proofs.SlantLaws.{sine_high_rises, cosine_low_falls, cosine_high_falls, IsBelowSlope, IsAboveSlope}
+use Rattle.series_enclose.proofs.SlantLaws.{sine_high_rises, cosine_low_falls, cosine_high_falls, IsBelowSlope, IsAboveSlope, square_times, square_strict}
 use Rattle.angle_bracket.proofs.Candidates.{low_is_below, high_is_above, low_within}
 use Rattle.angle_bracket.proofs.Steps.{tan_step}
 
--- ---- squares times a side
-
-square_times : {a b : Fraction} (x : ℕ) → a ≤ᶠ b → ((a *ᶠ a) *ᶠ whole x) ≤ᶠ ((b *ᶠ b) *ᶠ whole x)
-square_times x h = mul_le_f (mul_le_f h h) (le_refl_f (whole x))
-
-positive_over : (a A b B : ℕ) → a * B < b * A → 0 < b
-positive_over a A zero B h = absurd (omega arith)
-positive_over a A (suc b) B h = omega arith
-
-square_strict : {a b : Fraction} (x : ℕ) → 0 < x → a <ᶠ b → ((a *ᶠ a) *ᶠ whole x) <ᶠ ((b *ᶠ b) *ᶠ whole x)
-unfolding whole
-square_strict {a} {b} x p h =
-    mul_lt_f p (le_lt_trans_f (mul_le_f (le_refl_f a) (le_of_lt_f h)) (mul_lt_f (positive_over a.num a.den b.num b.den h.cross) h (le_refl_f b)))
-    (le_refl_f (whole x))
+-- ---- squares of ticks times a side
 
 ticks_squares : (s x c y : ℕ) → (s * s) * x ≤ (c * c) * y → ((ticks s *ᶠ ticks s) *ᶠ whole x) ≤ᶠ ((ticks c *ᶠ ticks c) *ᶠ whole y)
 unfolding ticks whole ◌*ᶠ◌

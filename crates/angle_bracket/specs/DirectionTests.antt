@@ -1,4 +1,5 @@
--- Directions at depth 0, computed. The angle whose tangent is 1/2 is 26.57 degrees, and lies from 25 to 31 at that depth.
+-- Directions at depth 0, computed. The angle whose tangent is 1/2 is 26.57 degrees; at that depth it lies from 25 to 31, as a
+-- program in Python finds that tries every whole number of degrees with its own fractions.
 use Rattle.std.specs.Prelude.{◌≡◌, ◌&&◌, ℕ, Bool, pos, negsuc, true, refl}
 use Rattle.fx_base.specs.Fraction.{whole, at_most}
 use Rattle.fx_base.specs.Interval.{Interval, exact}
@@ -81,3 +82,26 @@ steep_up = refl
 straight_down : is_from_to 0 0 (direction_gamma 0 (pos 0) (pos 0) (negsuc 0)) ≡ true
 unfolding all_directions is_from_to
 straight_down = refl
+
+straight_up : is_from_to 180 180 (direction_gamma 0 (pos 0) (pos 0) (pos 1)) ≡ true
+unfolding all_directions is_from_to
+straight_up = refl
+
+-- level: 90 degrees, neither down nor up
+level : is_from_to 90 90 (direction_gamma 0 (pos 3) (pos 4) (pos 0)) ≡ true
+unfolding all_directions is_from_to
+level = refl
+
+-- along the axes, where a direction has neither a negative x nor a negative y but for west and south
+west : is_from_to 180 180 (direction_c 0 (negsuc 4) (pos 0) 0) ≡ true
+unfolding all_directions is_from_to
+west = refl
+
+south : is_from_to 270 270 (direction_c 0 (pos 0) (negsuc 4) 0) ≡ true
+unfolding all_directions is_from_to
+south = refl
+
+-- the turn of 90 degrees leads from 0 to 270
+east_turned : is_from_to 270 270 (direction_c 0 (pos 1) (pos 0) 90) ≡ true
+unfolding all_directions is_from_to
+east_turned = refl

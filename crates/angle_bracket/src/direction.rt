@@ -1,6 +1,6 @@
 ghost use Rattle.std.specs.Prelude.{◌≡◌, ℕ, ◌+◌, ◌*◌, ◌^◌, ◌<◌, ◌≤◌, ◌+ℤ◌, ◌≤ℤ◌, ◌<ℤ◌, pos, IsTrue, unsigned_abs};
 ghost use Rattle.fx_base.specs.Interval.{Interval, Meets, MeetsOnCircle};
-ghost use Rattle.angle_bracket.specs.Angles.{of_bracket, between};
+ghost use Rattle.fx_base.specs.Units.{of_bracket, micros_between};
 ghost use Rattle.angle_bracket.specs.Direction.{square as square_of, quarter_angle as quarter_angle_of, in_quarter as in_quarter_of, less_turn, brought, direction_c, direction_gamma};
 
 use crate::arc::{Arc, DEGREE, bracket_of, taken_from};
@@ -26,7 +26,7 @@ fn quarter_angle(table: &TangentTable, x: u64, y: u64) -> Arc
     requires some { 0 < x + y }
     requires x { x < 2 ^ 40 }
     requires y { y < 2 ^ 40 }
-    ensures meets { (n : ℕ) → Meets (between result.lo result.hi) (quarter_angle_of n x y) }
+    ensures meets { (n : ℕ) → Meets (micros_between result.lo result.hi) (quarter_angle_of n x y) }
     ensures narrow { result.hi ≤ result.lo + 31250 }
     ensures order { result.lo ≤ result.hi }
     ensures within { result.hi ≤ 90000000 }
@@ -46,7 +46,7 @@ fn in_quarter(west: bool, south: bool, angle: Arc) -> Arc
     requires order { angle.lo ≤ angle.hi }
     requires within { angle.hi ≤ 90000000 }
     requires south { IsTrue south → 0 < angle.hi }
-    ensures meets { (t : Interval) → Meets (between angle.lo angle.hi) t → Meets (between result.lo result.hi) (in_quarter_of west south t) }
+    ensures meets { (t : Interval) → Meets (micros_between angle.lo angle.hi) t → Meets (micros_between result.lo result.hi) (in_quarter_of west south t) }
     ensures narrow { result.hi ≤ result.lo + 31250 }
     ensures order { result.lo ≤ result.hi }
     ensures below { result.lo < 360000000 }
@@ -73,7 +73,7 @@ fn turned_back(angle: Arc, turn: u16) -> Arc
     requires narrow { angle.hi ≤ angle.lo + 31250 }
     requires order { angle.lo ≤ angle.hi }
     requires below { angle.lo < 360000000 }
-    ensures meets { (t : Interval) → Meets (between angle.lo angle.hi) t → MeetsOnCircle (between result.lo result.hi) (brought (less_turn turn t)) }
+    ensures meets { (t : Interval) → Meets (micros_between angle.lo angle.hi) t → MeetsOnCircle (micros_between result.lo result.hi) (brought (less_turn turn t)) }
     ensures narrow { result.hi ≤ result.lo + 31250 }
     ensures order { result.lo ≤ result.hi }
     ensures below { result.lo < 360000000 }

@@ -1,9 +1,9 @@
 ghost use Rattle.std.specs.Prelude.{◌≡◌, ℕ, ◌+◌, ◌*◌, ◌^◌, ◌<◌, ◌≤◌, ◌+ℤ◌, ◌≤ℤ◌, ◌<ℤ◌, pos, min, IsTrue, IsFalse};
 ghost use Rattle.fx_base.specs.Fraction.{◌≤ᶠ◌};
 ghost use Rattle.fx_base.specs.Interval.{Meets};
-ghost use Rattle.fx_base.specs.Units.{millionths};
+ghost use Rattle.fx_base.specs.Units.{millionths, of_bracket, micros_between};
 ghost use Rattle.series_enclose.specs.Slant.{slant as slant_of};
-ghost use Rattle.angle_bracket.specs.Angles.{of_bracket, between, IsRowAngle};
+ghost use Rattle.angle_bracket.specs.Angles.{IsRowAngle};
 
 use crate::arc::{Arc, bracket_of};
 use fx_base::{Bracket, magnitude};
@@ -57,7 +57,7 @@ pub fn slope_angle(table: &TangentTable, x: u64, y: u64) -> Arc
     requires some { 0 < x }
     requires x { x < 2 ^ 40 }
     requires y { y ≤ x }
-    ensures meets { (n : ℕ) → Meets (between result.lo result.hi) (slant_of n x y) }
+    ensures meets { (n : ℕ) → Meets (micros_between result.lo result.hi) (slant_of n x y) }
     ensures narrow { result.hi ≤ result.lo + 31250 }
     ensures low_row { IsRowAngle (pos result.lo) }
     ensures high_row { IsRowAngle (pos result.hi) }

@@ -10,11 +10,11 @@ pub is_true_or_false : (b : Bool) → (b ≡ true) ⊎ (b ≡ false)
 is_true_or_false true = inl refl
 is_true_or_false false = inr refl
 
-greatest_here : (test : ℕ → Bool) (k : ℕ) → test (suc k) ≡ true → greatest test (suc k) ≡ suc k
+pub greatest_here : (test : ℕ → Bool) (k : ℕ) → test (suc k) ≡ true → greatest test (suc k) ≡ suc k
 unfolding greatest
 greatest_here test k e = rw (e, greatest) refl
 
-greatest_below : (test : ℕ → Bool) (k : ℕ) → test (suc k) ≡ false → greatest test (suc k) ≡ greatest test k
+pub greatest_below : (test : ℕ → Bool) (k : ℕ) → test (suc k) ≡ false → greatest test (suc k) ≡ greatest test k
 unfolding greatest
 greatest_below test k e = rw (e, greatest) refl
 

@@ -4,6 +4,7 @@ use Rattle.fx_base.specs.Fraction.{Fraction, ◌≤ᶠ◌, ◌≈ᶠ◌, ◌+ᶠ
 use Rattle.fx_base.specs.Interval.{Interval, Meets, LiesIn, outward, turned, MeetsOnCircle}
 use Rattle.fx_base.specs.Nesting.{IsNested}
 use Rattle.fx_base.specs.Root.{root}
+use Rattle.fx_base.specs.Search.{IsRootOf, whole_root}
 
 -- an interval at most e wide that meets another lies within that other moved outward by e
 abbrev pub NearByMeeting : Type 0
@@ -13,6 +14,10 @@ NearByMeeting = (a b : Interval) (e : Fraction) → a.hi ≤ᶠ (a.lo +ᶠ e) �
 abbrev pub NearByMeetingOnCircle : Type 0
 NearByMeetingOnCircle = (a b : Interval) (e : Fraction) → a.hi ≤ᶠ (a.lo +ᶠ e) → MeetsOnCircle a b →
     (turns : ℕ) × (LiesIn (turned turns a) (outward e b) ⊎ LiesIn a (outward e (turned turns b)))
+
+-- a whole root is the greatest whole number whose square is at most that
+abbrev pub RootIsGreatest : Type 0
+RootIsGreatest = (n : ℕ) → IsRootOf n (whole_root n)
 
 -- the enclosures of a root nest, and their ends are in order
 abbrev pub RootNests : Type 0

@@ -1,6 +1,8 @@
 pub mod Ends
 pub mod Fraction
+mod FractionTests
 pub mod Interval
+mod IntervalTests
 pub mod Laws
 pub mod Nesting
 pub mod Root

@@ -15,3 +15,8 @@ root_of_two = refl
 root_of_twenty_five : root 2 25 ≡ record { lo = halved 2 20; hi = halved 2 21 }
 unfolding whole_root root_digits root
 root_of_twenty_five = refl
+
+-- Python's math.isqrt(2 * 4**36): the root of 2 in ticks
+root_of_two_in_ticks : root 36 2 ≡ record { lo = halved 36 97184015999; hi = halved 36 97184016000 }
+unfolding whole_root root_digits root
+root_of_two_in_ticks = refl

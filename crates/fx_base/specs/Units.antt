@@ -5,6 +5,7 @@ use Rattle.std.proofs.Math.Nat.{zero-lt-suc}
 use Rattle.fx_base.specs.Fraction.{Fraction}
 use Rattle.fx_base.specs.Interval.{Interval}
 use Rattle.fx_base.specs.Ends.{Ends}
+use Rattle.fx_base.specs.declared.micro.Bracket.{Bracket}
 
 -- the whole number, and 0 in place of a negative one
 abbrev pub natural : ℤ → ℕ
@@ -21,3 +22,11 @@ millionths m = record { num = m; den = 1000000; positive = zero-lt-suc 999999 }
 
 abbrev pub of_span : Ends → Interval
 of_span s = record { lo = ticks (natural s.lo); hi = ticks (natural s.hi) }
+
+-- so many millionths to so many
+abbrev pub micros_between : ℕ → ℕ → Interval
+micros_between lo hi = record { lo = millionths lo; hi = millionths hi }
+
+-- the angles between the two ends of a bracket
+abbrev pub of_bracket : Bracket → Interval
+of_bracket b = micros_between (natural b.lo.0) (natural b.hi.0)

@@ -1,6 +1,6 @@
 //! What holds of the definitions in `specs/`, each as the contract of a function that does nothing.
 
-ghost use Rattle.fx_base.specs.Laws.{NearByMeeting, NearByMeetingOnCircle, QuotientIsSteady, RootNarrows, RootNests};
+ghost use Rattle.fx_base.specs.Laws.{NearByMeeting, NearByMeetingOnCircle, QuotientIsSteady, RootIsGreatest, RootNarrows, RootNests};
 ghost use Rattle.fx_base.specs.SpanLaws.{FractionHolds, ProductHolds, QuotientHolds, RootHolds, ScaledHolds, SumHolds};
 
 /// An interval at most e wide that meets another lies within that other moved outward by e.
@@ -12,6 +12,11 @@ pub fn near_by_meeting()
 #[tactic(auto, using(crate::proofs::Near::near_by_meeting_on_circle))]
 pub fn near_by_meeting_on_circle()
     ensures { NearByMeetingOnCircle }
+{}
+
+/// A whole root is the greatest whole number whose square is at most that of which it is the root.
+pub fn root_is_greatest()
+    ensures { RootIsGreatest }
 {}
 
 /// Each enclosure of a square root lies within the one before, and none is empty.

@@ -2,11 +2,11 @@
 use Rattle.std.proofs.Common.{ℕ, ◌+◌, ◌-◌, ◌<◌, ◌≤◌, ◌≡◌, min, max, inl, inr, arith, subst}
 use Rattle.std.proofs.lemmas.Bool.{cases_lt}
 use Rattle.fx_base.specs.Fraction.{Fraction, ◌≤ᶠ◌, lesser, greater}
-use Rattle.fx_base.specs.Units.{ticks, millionths}
+use Rattle.fx_base.specs.Units.{ticks, millionths, micros_between}
 use Rattle.fx_base.proofs.Order.{le_trans_f}
 use Rattle.fx_base.proofs.Sums.{ticks_le}
 use Rattle.photo_table.specs.Axis.{extreme}
-use Rattle.photo_table.specs.Kept.{Rounds, angles_between}
+use Rattle.photo_table.specs.Kept.{Rounds}
 use Rattle.photo_table.proofs.Between.{millionths_le, millionths_back}
 use Rattle.photo_table.proofs.Outward.{outward_below, outward_above}
 use Rattle.photo_table.proofs.Corners.{extreme_outward, extreme_within}
@@ -22,8 +22,8 @@ pub record Swept (k : ℕ → ℕ) (n l h : ℕ) (f g : Fraction → Fraction) (
   pub left : Holds f g lo hi (millionths l)
   pub right : Holds f g lo hi (millionths h)
   pub knots : (a : ℕ) → a < j → l ≤ k a → k a ≤ h → Holds f g lo hi (millionths (k a))
-  pub low_near : extreme lesser k n (angles_between l h) f ≤ᶠ ticks (lo + 1)
-  pub high_near : ticks (hi - 1) ≤ᶠ extreme greater k n (angles_between l h) g
+  pub low_near : extreme lesser k n (micros_between l h) f ≤ᶠ ticks (lo + 1)
+  pub high_near : ticks (hi - 1) ≤ᶠ extreme greater k n (micros_between l h) g
   pub in_order : lo ≤ hi
 
 holds_wider : (f g : Fraction → Fraction) (lo hi lo' hi' : ℕ) (x : Fraction) → lo' ≤ lo → hi ≤ hi' → Holds f g lo hi x → Holds f g lo' hi' x
@@ -45,7 +45,7 @@ pub swept_start : (k : ℕ → ℕ) (n l h : ℕ) (f g : Fraction → Fraction) 
     → Rounds (f (millionths l)) (g (millionths l)) a b → Rounds (f (millionths h)) (g (millionths h)) c d → lo ≡ min a c → hi ≡ max b d
     → ((i : ℕ) → i < j → k i ≤ l) → Swept k n l h f g j lo hi
 swept_start k n l h f g j a b c d lo hi left right e e' before =
-    let i = angles_between l h in
+    let i = micros_between l h in
     let low = extreme_outward lesser (λ (m x : Fraction). m ≤ᶠ x) outward_below k n i f in
     let high = extreme_outward greater (λ (m x : Fraction). x ≤ᶠ m) outward_above k n i g in
     let p = left.in_order in
@@ -66,7 +66,7 @@ pub swept_more : (k : ℕ → ℕ) (n l h : ℕ) (f g : Fraction → Fraction) (
     → j < n → l ≤ k j → k j ≤ h → Rounds (f (millionths (k j))) (g (millionths (k j))) c d → lo ≡ min a c → hi ≡ max b d
     → Swept k n l h f g (j + 1) lo hi
 swept_more k n l h f g j a b c d lo hi s within from to new e e' =
-    let i = angles_between l h in
+    let i = micros_between l h in
     let low = extreme_outward lesser (λ (m x : Fraction). m ≤ᶠ x) outward_below k n i f in
     let high = extreme_outward greater (λ (m x : Fraction). x ≤ᶠ m) outward_above k n i g in
     let p = s.in_order in
@@ -86,9 +86,9 @@ swept_more k n l h f g j a b c d lo hi s within from to new e e' =
 
 pub swept_end : (k : ℕ → ℕ) (n l h : ℕ) (f g : Fraction → Fraction) (j lo hi : ℕ) → Swept k n l h f g j lo hi
     → ((i : ℕ) → j ≤ i → i < n → h < k i)
-    → Rounds (extreme lesser k n (angles_between l h) f) (extreme greater k n (angles_between l h) g) lo hi
+    → Rounds (extreme lesser k n (micros_between l h) f) (extreme greater k n (micros_between l h) g) lo hi
 swept_end k n l h f g j lo hi s after =
-    let i = angles_between l h in
+    let i = micros_between l h in
     let at = λ (a : ℕ) (p : a < n) (from : l ≤ k a) (to : k a ≤ h). knot_held k n l h f g j lo hi s after a p from to in
     record {
       low = extreme_within lesser (λ (m x : Fraction). m ≤ᶠ x) outward_below k n i f (ticks lo)

@@ -1,13 +1,7 @@
--- Angles in degrees, and brackets of them.
+-- Angles in degrees, and intervals of them.
 use Rattle.std.specs.Prelude.{◌+◌, ◌*◌, Bool, ◌&&◌}
 use Rattle.fx_base.specs.Fraction.{Fraction, at_most}
 use Rattle.fx_base.specs.Interval.{Interval}
-use Rattle.fx_base.specs.Units.{natural, millionths}
-use Rattle.fx_base.specs.declared.Bracket.{Bracket}
-
--- the angles between the two ends of a bracket, none of them negative
-abbrev pub of_bracket : Bracket → Interval
-of_bracket b = record { lo = millionths (natural b.lo.0); hi = millionths (natural b.hi.0) }
 
 -- the same direction a turn later
 unfoldable pub turn_later : Fraction → Fraction

@@ -1,11 +1,12 @@
 -- What the lists of a table keep, and how near its answers are.
-use Rattle.std.specs.Prelude.{ℕ, ◌+◌, ◌-◌, ◌*◌, ◌/◌, ◌%◌, ◌<◌, ◌≤◌, ◌≡◌, ◌≤ℤ◌, pos, List, [], ◌∷◌, ◌++◌, length, map, slice_index_or, codes, decimal}
+use Rattle.std.specs.Prelude.{ℕ, ◌+◌, ◌-◌, ◌*◌, ◌/◌, ◌<◌, ◌≤◌, ◌≡◌, ◌≤ℤ◌, pos, List, [], ◌∷◌, ◌++◌, length, map, slice_index_or, codes, decimal}
 use Rattle.std.specs.Int.{div_ceil}
 use Rattle.fx_base.specs.Fraction.{Fraction, ◌≤ᶠ◌, whole}
 use Rattle.fx_base.specs.Interval.{Interval, exact}
 use Rattle.fx_base.specs.Ends.{Ends}
-use Rattle.fx_base.specs.Units.{natural, ticks, millionths, of_span}
+use Rattle.fx_base.specs.Units.{natural, ticks, of_span}
 use Rattle.fx_base.specs.declared.Micro.{Micro}
+use Rattle.decimal_text.specs.Decimals.{hundredths}
 use Rattle.photo_table.specs.Table.{Table, IsTable, lower, upper}
 
 abbrev pub angle_of : Micro → ℕ
@@ -28,9 +29,6 @@ pub record IsKept (planes gammas : List Micro) (values : List Ends) : Type 0 whe
   pub planes_below : (i : ℕ) → i < length planes → slice_index_or (map angle_of planes) i 0 < 360000000
   pub gammas_not_negative : (i : ℕ) (d : Micro) → i < length gammas → pos 0 ≤ℤ (slice_index_or gammas i d).0
   pub intensities : (i : ℕ) (d : Ends) → i < length values → IsIntensity (slice_index_or values i d)
-
-abbrev pub angles_between : ℕ → ℕ → Interval
-angles_between low high = record { lo = millionths low; hi = millionths high }
 
 abbrev pub ticks_between : ℕ → ℕ → Interval
 ticks_between low high = record { lo = ticks low; hi = ticks high }
@@ -59,13 +57,6 @@ even_table candela = record {
 }
 
 -- ---- the summary
-
-abbrev pub digit : ℕ → List ℕ
-digit n = decimal (n % 10)
-
--- with two decimals
-abbrev pub hundredths : ℕ → List ℕ
-hundredths n = decimal (n / 100) ++ codes "." ++ digit (n / 10) ++ digit n
 
 -- so many ticks in hundredths of a candela, rounded down and rounded up
 abbrev pub hundredths_below : ℕ → ℕ

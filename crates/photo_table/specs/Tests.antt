@@ -1,5 +1,6 @@
 -- Values and hulls of small tables, computed.
-use Rattle.std.specs.Prelude.{ℕ, ◌≡◌, Bool, true, ◌&&◌, refl, [], ◌∷◌}
+use Rattle.std.specs.Prelude.{ℕ, ◌≡◌, Bool, true, ◌&&◌, refl, [], ◌∷◌, codes}
+use Rattle.std.specs.Fmt.{digits}
 use Rattle.fx_base.specs.Fraction.{Fraction, ◌+ᶠ◌, ◌*ᶠ◌, ratio, whole, at_most, lesser, greater}
 use Rattle.fx_base.specs.Interval.{Interval, exact}
 use Rattle.fx_base.specs.Units.{millionths}
@@ -8,6 +9,7 @@ use Rattle.photo_table.specs.Angles.{turn_later}
 use Rattle.photo_table.specs.Axis.{behind, ahead, between, piece, along, extreme}
 use Rattle.photo_table.specs.Table.{Table, plane, value, end_at, bilinear}
 use Rattle.photo_table.specs.Hull.{gamma_extreme, plane_extreme, hull}
+use Rattle.photo_table.specs.Kept.{summary_line}
 
 unfoldable pub computed : Unit {0}
 unfolding ◌+ᶠ◌ ◌*ᶠ◌ ratio whole lesser greater millionths greatest turn_later behind ahead between piece along extreme plane value end_at bilinear gamma_extreme plane_extreme hull
@@ -64,3 +66,58 @@ peak_in_the_bracket :
     is_interval (hull four_planes (record { lo = millionths 269900000; hi = millionths 270100000 }) (exact (whole 90))) (ratio 1199 3) (whole 400) ≡ true
 unfolding computed
 peak_in_the_bracket = refl
+
+-- ---- a table whose planes and gammas lie unevenly and whose intensities have two ends. What follows was calculated by a program in
+-- Python, with its own fractions, that interpolates between the two planes and the two gammas next to a direction
+
+abbrev uneven : Table
+unfolding computed
+uneven = record {
+  planes = 10000000 ∷ 200000000 ∷ [];
+  gammas = 30000000 ∷ 90000000 ∷ 120000000 ∷ [];
+  values =
+      record { lo = whole 7; hi = whole 11 } ∷ record { lo = whole 13; hi = whole 17 } ∷ record { lo = whole 19; hi = whole 20 } ∷
+      record { lo = whole 23; hi = whole 29 } ∷ record { lo = whole 31; hi = whole 37 } ∷ record { lo = whole 41; hi = whole 43 } ∷ [];
+}
+
+-- after the last plane
+at_300_and_50 : is_interval (bilinear uneven (whole 300) (whole 50)) (ratio 809 51) (ratio 1055 51) ≡ true
+unfolding computed
+at_300_and_50 = refl
+
+-- before the first one
+at_5_and_100 : is_interval (bilinear uneven (whole 5) (whole 100)) (ratio 794 51) (ratio 633 34) ≡ true
+unfolding computed
+at_5_and_100 = refl
+
+at_the_first_gamma : is_interval (bilinear uneven (whole 10) (whole 30)) (whole 7) (whole 11) ≡ true
+unfolding computed
+at_the_first_gamma = refl
+
+before_the_first_gamma : is_interval (bilinear uneven (whole 100) (whole 29)) (whole 0) (whole 0) ≡ true
+unfolding computed
+before_the_first_gamma = refl
+
+-- brackets with a plane and a gamma in them
+hull_round_a_plane_and_a_gamma :
+    is_interval (hull uneven (record { lo = whole 9; hi = whole 11 }) (record { lo = whole 89; hi = whole 91 })) (ratio 129 10) (ratio 29271 1700) ≡ true
+unfolding computed
+hull_round_a_plane_and_a_gamma = refl
+
+-- the same a turn later
+hull_a_turn_later :
+    is_interval (hull uneven (record { lo = whole 369; hi = whole 371 }) (record { lo = whole 89; hi = whole 91 })) (ratio 129 10) (ratio 29271 1700) ≡ true
+unfolding computed
+hull_a_turn_later = refl
+
+-- over the first gamma, before which there is no light
+hull_over_the_first_gamma :
+    is_interval (hull uneven (record { lo = whole 199; hi = whole 201 }) (record { lo = whole 29; hi = whole 31 })) (whole 0) (ratio 437 15) ≡ true
+unfolding computed
+hull_over_the_first_gamma = refl
+
+-- ---- the summary of 100.07 candela, whose neighbouring ticks are 6876758036971 and 6876758036972
+
+rounded_outward_twice : summary_line four_planes 6876758036971 6876758036972 ≡ codes "planes 4 gammas 2 greatest 100.06 100.08"
+unfolding digits four_planes
+rounded_outward_twice = refl

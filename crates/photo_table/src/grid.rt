@@ -21,12 +21,11 @@ pub struct Grid {
 impl Grid {
     ghost use Rattle.std.specs.Prelude.{◌≡◌, ℕ, ◌+◌, ◌-◌, ◌*◌, ◌^◌, ◌<◌, ◌≤◌, ◌≤ℤ◌, pos, length};
     ghost use Rattle.fx_base.specs.Fraction.{◌≈ᶠ◌, ratio, lesser, greater};
-    ghost use Rattle.fx_base.specs.Units.{natural, ticks, millionths};
-    ghost use Rattle.photo_table.specs.Angles.{of_bracket};
+    ghost use Rattle.fx_base.specs.Units.{natural, ticks, millionths, of_bracket, micros_between};
     ghost use Rattle.photo_table.specs.Axis.{between};
     ghost use Rattle.photo_table.specs.Table.{plane, gamma, value, lower, upper, end_at};
     ghost use Rattle.photo_table.specs.Hull.{gamma_extreme, plane_extreme, hull as hull_of};
-    ghost use Rattle.photo_table.specs.Kept.{Rounds, IsGreatest, angles_between};
+    ghost use Rattle.photo_table.specs.Kept.{Rounds, IsGreatest};
     ghost use Rattle.photo_table.specs.Grid.{table_in};
 
     /// The plane of number i.
@@ -131,7 +130,7 @@ impl Grid {
         requires left { plane (table_in self.now) i ≤ x }
         requires right { x ≤ plane (table_in self.now) (i + 1) }
         requires in_order { low ≤ high }
-        ensures rounds { Rounds (gamma_extreme lesser lower (table_in self.now) (angles_between low high) (millionths x)) (gamma_extreme greater upper (table_in self.now) (angles_between low high) (millionths x)) result.lo result.hi }
+        ensures rounds { Rounds (gamma_extreme lesser lower (table_in self.now) (micros_between low high) (millionths x)) (gamma_extreme greater upper (table_in self.now) (micros_between low high) (millionths x)) result.lo result.hi }
     {
         let mut part = joined(self.at(i, x, low), self.at(i, x, high));
         let first = count_up_to(&self.gammas, low);
@@ -148,7 +147,7 @@ impl Grid {
         requires round { left ≤ right }
         requires turns { right < 1080000000 }
         requires in_order { low ≤ high }
-        ensures rounds { Rounds (plane_extreme lesser lower (table_in self.now) (angles_between left right) (angles_between low high)) (plane_extreme greater upper (table_in self.now) (angles_between left right) (angles_between low high)) result.lo result.hi }
+        ensures rounds { Rounds (plane_extreme lesser lower (table_in self.now) (micros_between left right) (micros_between low high)) (plane_extreme greater upper (table_in self.now) (micros_between left right) (micros_between low high)) result.lo result.hi }
     {
         let first = self.piece(left);
         let last = self.piece(right);

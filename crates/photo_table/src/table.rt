@@ -25,8 +25,7 @@ impl PhotoTable {
     ghost use Rattle.std.specs.Prelude.{◌≡◌, ℕ, ◌+◌, ◌*◌, ◌^◌, ◌<◌, ◌≤◌, ◌≤ℤ◌, pos, length, IfOk};
     ghost use Rattle.fx_base.specs.Fraction.{Fraction};
     ghost use Rattle.fx_base.specs.Interval.{Contains, LiesIn};
-    ghost use Rattle.fx_base.specs.Units.{natural, ticks, of_span};
-    ghost use Rattle.photo_table.specs.Angles.{of_bracket};
+    ghost use Rattle.fx_base.specs.Units.{natural, ticks, of_span, of_bracket};
     ghost use Rattle.photo_table.specs.Table.{IsTable, bilinear, lower, upper};
     ghost use Rattle.photo_table.specs.Hull.{hull as hull_of};
     ghost use Rattle.photo_table.specs.Kept.{IsKept, IsGreatest, Rounds, even_table, table_of};

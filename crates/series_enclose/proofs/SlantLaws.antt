@@ -60,7 +60,7 @@ pub record IsBelowSlope (n x y : ℕ) (g : Fraction) : Type 0 where
 pub record IsAboveSlope (n x y : ℕ) (g : Fraction) : Type 0 where
   pub squares : (((cosine n g).hi *ᶠ (cosine n g).hi) *ᶠ whole y) ≤ᶠ (((sine n g).lo *ᶠ (sine n g).lo) *ᶠ whole x)
 
-below_is : (n x y : ℕ) (g : Fraction) → is_below_slope (pi n) n x y g ≡ true → IsBelowSlope n x y g
+pub below_is : (n x y : ℕ) (g : Fraction) → is_below_slope (pi n) n x y g ≡ true → IsBelowSlope n x y g
 unfolding is_below_slope sine cosine
 below_is n x y g e = record {
   squares = at_most_le ((((sine n g).hi) *ᶠ ((sine n g).hi)) *ᶠ whole x) ((((cosine n g).lo) *ᶠ ((cosine n g).lo)) *ᶠ whole y) e;
@@ -70,7 +70,7 @@ is_below : (n x y : ℕ) (g : Fraction) → IsBelowSlope n x y g → is_below_sl
 unfolding is_below_slope sine cosine
 is_below n x y g h = at_most_true h.squares
 
-above_is : (n x y : ℕ) (g : Fraction) → is_above_slope (pi n) n x y g ≡ true → IsAboveSlope n x y g
+pub above_is : (n x y : ℕ) (g : Fraction) → is_above_slope (pi n) n x y g ≡ true → IsAboveSlope n x y g
 unfolding is_above_slope sine cosine
 above_is n x y g e = record {
   squares = at_most_le ((((cosine n g).hi) *ᶠ ((cosine n g).hi)) *ᶠ whole y) ((((sine n g).lo) *ᶠ ((sine n g).lo)) *ᶠ whole x) e;
@@ -81,7 +81,7 @@ unfolding is_above_slope sine cosine
 is_above n x y g h = at_most_true h.squares
 
 -- what is below at one depth is below at the next, and so is what isn't greater
-square_times : {a b : Fraction} (x : ℕ) → a ≤ᶠ b → ((a *ᶠ a) *ᶠ whole x) ≤ᶠ ((b *ᶠ b) *ᶠ whole x)
+pub square_times : {a b : Fraction} (x : ℕ) → a ≤ᶠ b → ((a *ᶠ a) *ᶠ whole x) ≤ᶠ ((b *ᶠ b) *ᶠ whole x)
 square_times x h = mul_le_f (mul_le_f h h) (le_refl_f (whole x))
 
 below_later : (n x y : ℕ) (g h : Fraction) → g ≤ᶠ h → h ≤ᶠ whole 45 → IsBelowSlope n x y h → IsBelowSlope (suc n) x y g
@@ -100,11 +100,11 @@ above_later n x y g h le k a = record {
 
 -- ---- candidates
 
-candidate_45 : (n j : ℕ) → j ≤ 45 * 2 ^ n → halved n j ≤ᶠ whole 45
+pub candidate_45 : (n j : ℕ) → j ≤ 45 * 2 ^ n → halved n j ≤ᶠ whole 45
 unfolding halved whole
 candidate_45 n j h = record { cross = omega arith }
 
-end_is_45 : (n j : ℕ) → 45 * 2 ^ n ≤ j → whole 45 ≤ᶠ halved n j
+pub end_is_45 : (n j : ℕ) → 45 * 2 ^ n ≤ j → whole 45 ≤ᶠ halved n j
 unfolding halved whole
 end_is_45 n j h = record { cross = omega arith }
 
@@ -156,7 +156,7 @@ above_positive a b h = positive_of a.num a.den b.num b.den h.cross
     positive_of a A zero B h = absurd (omega arith)
     positive_of a A (suc b) B h = omega arith
 
-square_strict : {a b : Fraction} (x : ℕ) → 0 < x → a <ᶠ b → ((a *ᶠ a) *ᶠ whole x) <ᶠ ((b *ᶠ b) *ᶠ whole x)
+pub square_strict : {a b : Fraction} (x : ℕ) → 0 < x → a <ᶠ b → ((a *ᶠ a) *ᶠ whole x) <ᶠ ((b *ᶠ b) *ᶠ whole x)
 unfolding whole
 square_strict {a} {b} x p h =
     mul_lt_f p (le_lt_trans_f (mul_le_f (le_refl_f a) (le_of_lt_f h)) (mul_lt_f (above_positive a b h) h (le_refl_f b))) (le_refl_f (whole x))

@@ -14,6 +14,7 @@ fn pi_lies_between_neighbouring_ticks(rt: HostRuntime) {
     let pi = pi_span();
     assert!(rt; pi.lo().0 <= 215_888_603_272);
     assert!(rt; pi.hi().0 >= 215_888_603_273);
+    assert!(rt; pi.hi().0 <= pi.lo().0.saturating_add(8));
 }
 
 #[test]

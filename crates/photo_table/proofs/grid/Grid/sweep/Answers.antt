@@ -1,10 +1,9 @@
 use Rattle.std.proofs.Common.{◌+◌, ◌≤◌, arith}
 use Rattle.fx_base.specs.Fraction.{lesser, greater}
-use Rattle.fx_base.specs.Units.{millionths}
+use Rattle.fx_base.specs.Units.{millionths, micros_between}
 use Rattle.photo_table.specs.Table.{plane, planes_to, lower, upper}
 use Rattle.photo_table.specs.Hull.{gamma_extreme, plane_extreme}
 use Rattle.photo_table.specs.Grid.{table_in}
-use Rattle.photo_table.specs.Kept.{angles_between}
 use Rattle.photo_table.proofs.Lists.{few_planes}
 use Rattle.photo_table.proofs.Between.{millionths_le}
 use Rattle.photo_table.proofs.Tables.{plane_le, within_planes}
@@ -22,7 +21,7 @@ overflow_add-i-end c = let s = c.args.self.now in
 pub loop-i-init : goal.loop-i-init
 loop-i-init c =
     let t = table_in c.args.self.now in
-    let g = angles_between c.args.low c.args.high in
+    let g = micros_between c.args.low c.args.high in
     swept_start (plane t) (planes_to t (millionths c.args.right)) c.args.left c.args.right (gamma_extreme lesser lower t g) (gamma_extreme greater upper t g)
     (c.piece-first.result + 1) _ _ _ _ c.joined-part.result.lo c.joined-part.result.hi
     c.row.ensures.rounds c.row-2.ensures.rounds c.joined-part.ensures.low c.joined-part.ensures.high
@@ -37,7 +36,7 @@ pub loop-i-preserved : goal.loop-i-preserved
 loop-i-preserved c =
     let t = table_in c.args.self.now in
     let is = c.args.self.now.kept.is_table in
-    let g = angles_between c.args.low c.args.high in
+    let g = micros_between c.args.low c.args.high in
     let i = c.loop-i.i in
     let from : c.args.left ≤ plane t i = let a = plane_le t is (c.piece-first.result + 1) i c.loop-i.auto.i in omega (arith, a, c.piece-first.ensures.high) in
     let to : plane t i ≤ c.args.right = let a = plane_le t is i c.piece-last.result (omega (arith, c.loop-i-test.true)) in omega (arith, a, c.piece-last.ensures.low) in
@@ -52,7 +51,7 @@ unfolding plane_extreme
 returns c =
     let t = table_in c.args.self.now in
     let is = c.args.self.now.kept.is_table in
-    let g = angles_between c.args.low c.args.high in
+    let g = micros_between c.args.low c.args.high in
     record {
       rounds = swept_end (plane t) (planes_to t (millionths c.args.right)) c.args.left c.args.right (gamma_extreme lesser lower t g) (gamma_extreme greater upper t g)
           c.loop-i.i c.loop-i.part.lo c.loop-i.part.hi c.loop-i.invariant

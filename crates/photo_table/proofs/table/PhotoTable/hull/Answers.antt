@@ -1,4 +1,4 @@
-use Rattle.photo_table.specs.Angles.{of_bracket}
+use Rattle.fx_base.specs.Units.{of_bracket}
 use Rattle.photo_table.specs.Grid.{table_in}
 use Rattle.photo_table.proofs.Bright.{rounds_contains}
 use Rattle.photo_table.proofs.HullLaws.{hull_contains}
