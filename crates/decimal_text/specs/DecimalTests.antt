@@ -31,3 +31,12 @@ thousand_thousandths = refl
 many_thousandths : thousandths 40793 ≡ codes "40.793"
 unfolding digits
 many_thousandths = refl
+
+-- Python: divmod(2 ** 128 - 1, 100) is (3402823669209384634633746074317682114, 55), and by 1000 it is (340282366920938463463374607431768211, 455)
+most_hundredths : hundredths 340282366920938463463374607431768211455 ≡ codes "3402823669209384634633746074317682114.55"
+unfolding digits
+most_hundredths = refl
+
+most_thousandths : thousandths 340282366920938463463374607431768211455 ≡ codes "340282366920938463463374607431768211.455"
+unfolding digits
+most_thousandths = refl

@@ -5,3 +5,4 @@ pub mod Lit
 pub mod System
 mod LitTests
 mod SystemTests
+mod ValuesTests

@@ -1,9 +1,10 @@
--- Equations and lit scenes, computed. The values are those of the equations solved by hand.
+-- Equations and lit scenes, computed. The values are those of the equations solved by hand, where nothing else is said.
 use Rattle.std.specs.Prelude.{ℕ, ◌≡◌, ◌*◌, ◌/◌, ◌==◌, ◌&&◌, true, false, refl, if◌then◌else◌}
+use Rattle.std.proofs.Common.{lit<}
 use Rattle.fx_base.specs.Fraction.{Fraction, ratio, whole, at_most, ◌+ᶠ◌, ◌-ᶠ◌, ◌*ᶠ◌, ◌/ᶠ◌, sum_to}
 use Rattle.fx_base.specs.Interval.{exact}
 use Rattle.interval_system.specs.Whole.{reduced, reduced_light, denominator, numerator}
-use Rattle.interval_system.specs.Equations.{value_by, product_to, common_denominator, over, solution}
+use Rattle.interval_system.specs.Equations.{SolvesEquations, RowsBelowOne, IsOver, value_by, product_to, common_denominator, over, solution}
 use Rattle.interval_system.specs.Lit.{Lit, lower_light, upper_light, value, grid}
 use Rattle.interval_system.specs.Values.{open_count, open_sum, mean, average}
 
@@ -60,3 +61,52 @@ point_high = refl
 average_high : (average (grid scene)).hi.num * 2 ≡ 11 * (average (grid scene)).hi.den
 unfolding all_of_it scene
 average_high = refl
+
+-- three patches that all send to all. The solution is by Cramer's rule in Python's fractions:
+--
+--     from fractions import Fraction as F
+--     k = [[F(1, 10), F(1, 3), F(1, 4)], [F(1, 5), F(0), F(1, 2)], [F(2, 7), F(1, 6), F(1, 8)]]
+--     d = [F(3), F(0), F(5, 2)]
+--     def det(a):
+--         if len(a) == 1: return a[0][0]
+--         return sum((-1) ** j * a[0][j] * det([r[:j] + r[j + 1:] for r in a[1:]]) for j in range(len(a)))
+--     m = [[(i == j) - k[i][j] for j in range(3)] for i in range(3)]
+--     for c in range(3): print(det([[d[i] if j == c else m[i][j] for j in range(3)] for i in range(3)]) / det(m))
+abbrev of_three : Fraction → Fraction → Fraction → ℕ → Fraction
+of_three a b c i = if i == 0 then a else (if i == 1 then b else c)
+
+abbrev three_rows : ℕ → ℕ → Fraction
+unfolding all_of_it
+three_rows i =
+    if i == 0
+    then of_three (ratio 1 10) (ratio 1 3) (ratio 1 4)
+    else (if i == 1 then of_three (ratio 1 5) (whole 0) (ratio 1 2) else of_three (ratio 2 7) (ratio 1 6) (ratio 1 8))
+
+three : ℕ → Fraction
+unfolding all_of_it
+three = solution 3 three_rows (of_three (whole 3) (whole 0) (ratio 5 2))
+
+three_first : (three 0).num * 177 ≡ 1148 * (three 0).den
+unfolding all_of_it three
+three_first = refl
+
+three_second : (three 1).num * 295 ≡ 1234 * (three 1).den
+unfolding all_of_it three
+three_second = refl
+
+three_third : (three 2).num * 885 ≡ 5108 * (three 2).den
+unfolding all_of_it three
+three_third = refl
+
+-- h = 1 + h / 2 as a relation: 2 solves it, its row sum is below one, and over 2 its numbers are 1 and 2
+two_solves : SolvesEquations 1 (λ i j. ratio 1 2) (λ i. whole 1) (λ i. whole 2)
+unfolding all_of_it
+two_solves = record { row = λ i l. record { cross = refl } }
+
+half_is_below_one : RowsBelowOne 1 (λ i j. ratio 1 2)
+unfolding all_of_it
+half_is_below_one = record { row = λ i l. record { cross = lit< tt } }
+
+over_two : IsOver 1 2 (λ i j. 1) (λ i. 2) (λ i j. ratio 1 2) (λ i. whole 1)
+unfolding all_of_it
+over_two = record { positive = lit< tt; coefficient = λ i j l m. refl; light = λ i l. refl }

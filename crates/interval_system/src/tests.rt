@@ -19,6 +19,7 @@ fn a_row_holds_what_was_put_in(rt: HostRuntime) -> Result<(), Fail> {
     let mut row = Row::new(rt.alloc(), 3)?;
     row.put(1, QUARTER);
     assert_eq!(rt; row.len(), 3);
+    assert!(rt; !row.is_empty());
     assert_eq!(rt; row.weight(1), QUARTER);
     assert_eq!(rt; row.weight(2), Weight { lo: 0, hi: 0 });
     assert_eq!(rt; row.sum(), 17_179_869_184);

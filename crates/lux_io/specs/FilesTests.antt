@@ -1,7 +1,7 @@
 -- The words of `Files` on small examples.
-use Rattle.std.specs.Prelude.{◌≡◌, ◌^◌, ◌-◌, [], ◌∷◌, Some, None, refl}
+use Rattle.std.specs.Prelude.{ℕ, ◌≡◌, ◌^◌, ◌-◌, [], ◌∷◌, Some, None, Ok, Err, true, false, refl}
 use Rattle.std.proofs.Common.{lit<, lit≤}
-use Rattle.lux_io.specs.Files.{AddsPrefix, ReadsNext, Rose, Stood, bytes_of, with_bytes}
+use Rattle.lux_io.specs.Files.{AddsPrefix, Counted, HasCause, ReadsNext, Rose, Stood, bytes_of, with_bytes}
 
 -- of two files of one name the first counts
 first_of_the_name : bytes_of (98 ∷ []) ((97 ∷ [], 1 ∷ []) ∷ (98 ∷ [], 2 ∷ 3 ∷ []) ∷ (98 ∷ [], 4 ∷ []) ∷ []) ≡ Some (2 ∷ 3 ∷ [])
@@ -35,3 +35,19 @@ written_after = refl
 -- two of three bytes were written
 cut_short : AddsPrefix (Some (1 ∷ [])) (Some (1 ∷ 2 ∷ 3 ∷ [])) (2 ∷ 3 ∷ 4 ∷ [])
 cut_short = record { count = 2; proper = lit< tt; bytes = refl }
+
+-- of a sink that doesn't tell nothing is known afterwards either
+untold : with_bytes None (3 ∷ []) ≡ None
+untold = refl
+
+-- a failure was counted
+failed : HasCause {T = ℕ} {E = ℕ} 4 5 (Err 0)
+failed = record { later = lit≤ tt; cause = lit≤ tt }
+
+-- a call went well, and nothing was counted
+went_well : HasCause {T = ℕ} {E = ℕ} 4 4 (Ok 0)
+went_well = record { later = lit≤ tt; cause = tt }
+
+-- nothing was answered, and nothing was counted
+not_answered : Counted 4 4 (false ≡ true)
+not_answered = record { later = lit≤ tt; cause = λ answered. cc }

@@ -1,7 +1,9 @@
 // What no clause says: that calls succeed with ample memory, and that the adapters reach the real files and output.
 use crate::{FolderShelf, MemShelf, MemSink, OutSink, PutFault, TakeFault, put_all, take_file};
+use std::cell::Cell;
+use std::fmt::Display;
 use std::test::Fail;
-use std::{fs, process};
+use std::{fs, io, process};
 
 #[test]
 fn a_file_is_taken_whole_up_to_the_limit(rt: HostRuntime) -> Result<(), Fail> {
@@ -99,5 +101,50 @@ fn a_real_file_is_read(rt: HostRuntime) -> Result<(), Fail> {
 fn standard_output_takes_bytes(rt: HostRuntime) -> Result<(), Fail> {
     let mut out = OutSink::new(&rt);
     assert_eq!(rt; put_all(&mut out, b"a line on standard output\n"), Ok(()));
+    Ok(())
+}
+
+// An output that takes one byte at a call, the next of the wanted ones, and no other.
+#[derive(Drop)]
+struct ByteByByte {
+    wanted: &'static [u8],
+    taken: Cell<usize>,
+}
+
+impl Print for ByteByByte {
+    fn print<D: Display + Drop>(&self, _: D) -> io::Result<()> {
+        Ok(())
+    }
+
+    fn println<D: Display + Drop>(&self, _: D) -> io::Result<()> {
+        Ok(())
+    }
+
+    fn write_all(&self, _: &[u8]) -> io::Result<()> {
+        Ok(())
+    }
+
+    fn write_some(&self, bytes: &[u8]) -> io::Result<usize> {
+        let taken = self.taken.get();
+        if taken < self.wanted.len() && bytes.first() == self.wanted.get(taken) {
+            self.taken.set(taken + 1);
+            return Ok(1);
+        }
+        Err(io::ErrorKind::BrokenPipe.into())
+    }
+}
+
+#[test]
+fn an_output_that_takes_a_byte_at_a_time_gets_all(rt: HostRuntime) -> Result<(), Fail> {
+    let line = b"average 555.55 555.56\n";
+    let to = ByteByByte {
+        wanted: line.as_slice(),
+        taken: Cell::new(0),
+    };
+    let mut out = OutSink::new(&to);
+    assert_eq!(rt; put_all(&mut out, line), Ok(()));
+    assert_eq!(rt; to.taken.get(), 22);
+    // It takes nothing more, which is a fault.
+    assert_eq!(rt; put_all(&mut out, b"more"), Err(PutFault));
     Ok(())
 }

@@ -5,3 +5,4 @@ pub mod SolveFault
 pub mod Turn
 pub mod Composition
 mod ShownTests
+mod BoundsTests

@@ -1,13 +1,16 @@
 -- Layouts, read.
-use Rattle.std.specs.Prelude.{ℕ, ◌≡◌, ◌++◌, ◌∷◌, [], List, refl, codes, Ok, Err, None}
+use Rattle.std.specs.Prelude.{ℕ, ◌≡◌, ◌++◌, ◌∷◌, [], List, map, refl, codes, Ok, Err, Some, None, true, false}
+use Rattle.std.specs.List.{range_with_len}
 use Rattle.toml.proofs.OnLiterals.{toml_on_literals}
 use Rattle.std.specs.Str.{is_utf8, chars}
-use Rattle.room_layout.specs.Checks.{spot}
+use Rattle.room_layout.specs.Checks.{spot, is_name}
 use Rattle.room_layout.specs.declared.fault.Key.TheVariants as key
 use Rattle.room_layout.specs.declared.fault.RoomFault.TheVariants as fault
+use Rattle.room_layout.specs.declared.room.FileUse.{FileUse}
+use Rattle.room_layout.specs.declared.room.Lamp.{Lamp}
 use Rattle.room_layout.specs.declared.room.Room.{Room}
-use Rattle.room_layout.specs.declared.room.Shine.TheVariants.{Even}
-use Rattle.room_layout.specs.Layout.{document_of, shell_of, block_of, blocks_of, shine_of, checked_lamp, lamp_of, lamps_of, task_of, limits_in, limits_of, version_of, room_of_document, room_of, built_room_of_document, built_room_of}
+use Rattle.room_layout.specs.declared.room.Shine.TheVariants.{Even, File}
+use Rattle.room_layout.specs.Layout.{has_margin, placed, document_of, shell_of, block_of, blocks_of, shine_of, checked_lamp, lamp_of, lamps_of, task_of, limits_in, limits_of, version_of, room_of_document, room_of, built_room_of_document, built_room_of}
 use Rattle.room_layout.specs.Served.{is_unserved}
 
 no_version : room_of (codes "room = 1") ≡ Err fault.Version
@@ -140,3 +143,121 @@ short_room = refl
 many_points : built_room_of (line (codes "version = 1") (line (codes "room = { size = [500, 500, 500] }") (codes "task = { from = [0, 0], to = [1, 1], height = 0, points = [33, 32] }"))) ≡ Err (fault.TooMany (spot key.TaskPoints 0))
 unfolding is_utf8 chars toml_on_literals built_room_of built_room_of_document is_unserved document_of room_of_document version_of shell_of blocks_of lamps_of lamp_of shine_of checked_lamp task_of limits_of
 many_points = refl
+
+-- ---- every key
+
+abbrev whole_text : List ℕ
+whole_text =
+    line (codes "version = 1")
+    (line (codes "room = { size = [6000, 5000, 3000], reflect = [201, 702, 503, 504, 505, 506], patch = 650 }")
+    (line (codes "box = [{ lo = [1, 2, 3], hi = [1004, 505, 706], reflect = 307 }]")
+    (line (codes "task = { from = [11, 12], to = [5993, 4994], height = 715, points = [9, 7] }")
+    (line (codes "limits = { average_millilux = 500001, uniformity_permille = 402 }")
+    (line (codes "[[lamp]]")
+    (line (codes "at = [1001, 1002, 2503]")
+    (line (codes "file = 'a.ldt'")
+    (line (codes "set = 2")
+    (line (codes "turn = 45")
+    (line (codes "maintenance = 806")
+    (line (codes "size = [607, 608]")
+    (line (codes "split = [2, 3]")
+    (line (codes "[[lamp]]")
+    (line (codes "at = [0, 0, 0]")
+    (line (codes "file = 'a.ldt'")
+    (line (codes "[[lamp]]")
+    (line (codes "at = [6000, 5000, 3000]")
+    (line (codes "file = 'a.ldt'")
+    (codes "set = 2")))))))))))))))))))
+
+abbrev plain_lamp : ℕ → ℕ → ℕ → ℕ → Lamp
+plain_lamp x y z index = record { at = record { x = x; y = y; z = z }; shine = File index; turn = 0; maintenance = 1000; size_x = 0; size_y = 0; split_x = 1; split_y = 1 }
+
+-- two pairs of file and set, of which the first and the third lamp have the same
+abbrev whole_room : Room
+whole_room = record {
+  size = record { x = 6000; y = 5000; z = 3000 };
+  reflect = record { floor = 201; ceiling = 702; x0 = 503; x1 = 504; y0 = 505; y1 = 506 };
+  patch = 650;
+  blocks = record { lo = record { x = 1; y = 2; z = 3 }; hi = record { x = 1004; y = 505; z = 706 }; reflect = 307 } ∷ [];
+  lamps =
+      record { at = record { x = 1001; y = 1002; z = 2503 }; shine = File 0; turn = 45; maintenance = 806; size_x = 607; size_y = 608; split_x = 2; split_y = 3 }
+      ∷ plain_lamp 0 0 0 1 ∷ plain_lamp 6000 5000 3000 0 ∷ [];
+  files = record { name = codes "a.ldt"; set = 2 } ∷ record { name = codes "a.ldt"; set = 1 } ∷ [];
+  task = record { from_x = 11; from_y = 12; to_x = 5993; to_y = 4994; height = 715; nx = 9; ny = 7 };
+  limits = record { average = Some 500001; uniformity = Some 402 };
+}
+
+whole_read : room_of whole_text ≡ Ok whole_room
+unfolding is_utf8 chars toml_on_literals room_of document_of room_of_document version_of shell_of blocks_of block_of lamps_of lamp_of shine_of checked_lamp task_of limits_in limits_of
+whole_read = refl
+
+-- ---- lamps and boxes at the edge of what is accepted
+
+-- a room of 500 mm on each edge, and one more table or array
+abbrev closet_with : List ℕ → List ℕ
+closet_with more = line (codes "version = 1") (line (codes "room = { size = [500, 500, 500] }") more)
+
+-- the set's range is asked where there is no file, and before it is seen that nothing shines
+set_without_file : room_of (closet_with (codes "lamp = [{ at = [0, 0, 0], set = 21 }]")) ≡ Err (fault.Range (spot key.LampSet 0))
+unfolding is_utf8 chars toml_on_literals room_of document_of room_of_document version_of shell_of blocks_of lamps_of lamp_of shine_of checked_lamp task_of limits_of
+set_without_file = refl
+
+-- the second box is turned over and passes the room
+box_turned_over : room_of (closet_with (codes "box = [{ lo = [0, 0, 0], hi = [500, 500, 500] }, { lo = [0, 0, 9], hi = [501, 1, 9] }]")) ≡ Err (fault.Range (spot key.BoxHi 1))
+unfolding is_utf8 chars toml_on_literals room_of document_of room_of_document version_of shell_of blocks_of block_of lamps_of lamp_of shine_of checked_lamp task_of limits_of
+box_turned_over = refl
+
+-- neither candela nor file, and both
+no_shine : shine_of 3 [] 1 None None ≡ Err (fault.Missing (spot key.LampCandela 3))
+unfolding shine_of
+no_shine = refl
+
+both_shines : shine_of 3 [] 1 (Some 5) (Some (codes "a")) ≡ Err (fault.Kind (spot key.LampFile 3))
+unfolding shine_of
+both_shines = refl
+
+-- half of 301 is 150.5, which 150 mm to the wall are too few for
+even_size_at_the_wall : has_margin 150 300 300 ≡ true
+even_size_at_the_wall = refl
+
+odd_size_at_the_near_wall : has_margin 150 301 400 ≡ false
+odd_size_at_the_near_wall = refl
+
+odd_size_at_the_far_wall : has_margin 250 301 400 ≡ false
+odd_size_at_the_far_wall = refl
+
+-- sets 1 to n of one file
+abbrev sets_to : ℕ → List FileUse
+sets_to n = map (λ k. record { name = codes "a"; set = k }) (range_with_len 1 n)
+
+-- sixteen pairs are accepted, and one of them again adds none
+sixteen_pairs : checked_lamp (record { x = 500; y = 500; z = 500 }) 15 (plain_lamp 1 2 3 15) (sets_to 16) ≡ Ok (plain_lamp 1 2 3 15, sets_to 16)
+unfolding checked_lamp
+sixteen_pairs = refl
+
+a_pair_again : placed (record { name = codes "a"; set = 7 }) (sets_to 16) ≡ (6, sets_to 16)
+a_pair_again = refl
+
+seventeen_pairs : checked_lamp (record { x = 500; y = 500; z = 500 }) 16 (plain_lamp 1 2 3 16) (sets_to 17) ≡ Err (fault.TooMany (spot key.LampFile 16))
+unfolding checked_lamp
+seventeen_pairs = refl
+
+-- ---- names of files
+
+blanks_and_umlauts : is_name (codes "a b" ++ 195 ∷ 164 ∷ []) ≡ true
+blanks_and_umlauts = refl
+
+no_name : is_name [] ≡ false
+no_name = refl
+
+tab_in_a_name : is_name (codes "a" ++ 9 ∷ []) ≡ false
+tab_in_a_name = refl
+
+delete_in_a_name : is_name (codes "a" ++ 127 ∷ []) ≡ false
+delete_in_a_name = refl
+
+name_of_255 : is_name (map (λ _. 97) (range_with_len 0 255)) ≡ true
+name_of_255 = refl
+
+name_of_256 : is_name (map (λ _. 97) (range_with_len 0 256)) ≡ false
+name_of_256 = refl

@@ -1,9 +1,11 @@
--- Segments in a room of 3000 mm on each edge with a box from 1000 to 2000 on each axis; all is worked out by hand.
+-- Segments in a room of 3000 mm on each edge with a box from 1000 to 2000 on each axis; the rows are worked out by hand
+-- where nothing else is said.
 use Rattle.std.specs.Prelude.{ℕ, ◌≡◌, ◌*◌, true, false, refl, [], ◌∷◌}
 use Rattle.std.proofs.Common.{lit<}
+use Rattle.std.proofs.lemmas.List.Elements.{All-nil}
 use Rattle.room_layout.specs.Place.{Place}
 use Rattle.room_layout.specs.declared.room.Block.{Block}
-use Rattle.sight_line.specs.Sight.{MeetsBox, meets_box, is_blocked}
+use Rattle.sight_line.specs.Sight.{MeetsBox, NoneMet, IsFirstMet, meets_box, is_blocked}
 
 abbrev box : Block
 box = record { lo = record { x = 1000; y = 1000; z = 1000 }; hi = record { x = 2000; y = 2000; z = 2000 }; reflect = 0 }
@@ -69,3 +71,29 @@ no_box = refl
 second_box : is_blocked (record box { hi = record { x = 1500; y = 1500; z = 1500 } } ∷ box ∷ []) (place 0 1500 1500) (place 3000 1500 1500) ≡ true
 unfolding is_blocked meets_box
 second_box = refl
+
+-- ---- with other answers: those of `meets` in expected/segments.py, a search over fractions
+
+-- on a way that runs along all three axes, half a millimetre at one end decides
+just_past : meets_box (record { x = 996; y = 4948; z = 4172 }) (record { x = 3967; y = 3778; z = 1491 }) box ≡ false
+unfolding meets_box
+just_past = refl
+
+just_met : meets_box (record { x = 996; y = 4948; z = 4172 }) (record { x = 3967; y = 3778; z = 1492 }) box ≡ true
+unfolding meets_box
+just_met = refl
+
+other_way_past : meets_box (record { x = 1095; y = 667; z = 2978 }) (record { x = 5588; y = 4069; z = 482 }) box ≡ false
+unfolding meets_box
+other_way_past = refl
+
+other_way_met : meets_box (record { x = 1095; y = 667; z = 2979 }) (record { x = 5588; y = 4069; z = 482 }) box ≡ true
+unfolding meets_box
+other_way_met = refl
+
+-- no box is met where there is none, and of two equal boxes the first is
+none_met : NoneMet [] (place 0 1500 1500) (place 3000 1500 1500)
+none_met = All-nil _
+
+first_is_met : IsFirstMet (box ∷ box ∷ []) (place 0 1500 1500) (place 3000 1500 1500) 0
+first_is_met = record { met = through_relation; none_before = All-nil _ }
