@@ -8,6 +8,7 @@ mod position;
 mod reach;
 mod weigh;
 
+pub use position::{Position, in_front, position_of, squared_distance};
 pub use reach::{factor, point_factor};
 
 #[cfg(test)]

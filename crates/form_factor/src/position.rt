@@ -7,6 +7,7 @@ ghost use Rattle.form_factor.specs.Positions.{IsInReach, place_at};
 
 use room_layout::{Face, Point};
 
+/// A place in a room, in half mm from the corner at its origin.
 #[derive(Clone, Copy)]
 pub struct Position {
     pub x: u64,
@@ -21,6 +22,7 @@ fn coordinate(c: i32) -> u64
     c as u64
 }
 
+/// The place of a point.
 pub fn position_of(p: Point) -> Position
     requires { IsPointIn largest_room p }
     ensures place { place_at result ≡ place_of p }
@@ -35,7 +37,7 @@ pub fn position_of(p: Point) -> Position
 
 /// How far `q` lies in front of the plane through `p` with this face, and 0 where it doesn't.
 #[tactic(auto, unfolding(room_layout::specs::Place::in_front))]
-fn in_front(face: Face, p: &Position, q: &Position) -> u64
+pub fn in_front(face: Face, p: &Position, q: &Position) -> u64
     requires p { IsInReach p.now }
     requires q { IsInReach q.now }
     ensures front { result ≡ in_front face (place_at p.now) (place_at q.now) }

@@ -1,20 +1,8 @@
 -- The distance in front of a plane, against the distance between two places.
 use Rattle.std.proofs.Common.{ℕ, zero, suc, ◌+◌, ◌-◌, ◌*◌, ◌<◌, ◌≤◌, ◌≡◌, refl, arith}
-use Rattle.std.proofs.Math.Nat.{mul-le-mul}
 use Rattle.room_layout.specs.declared.geometry.Face.{Face}
 use Rattle.room_layout.specs.declared.geometry.Face.TheVariants.{Up, Down, East, West, North, South}
 use Rattle.room_layout.specs.Place.{Place, in_front, apart, squared_distance}
-
-square_le : (a b : ℕ) → a ≤ b → a * a ≤ b * b
-square_le a b h = mul-le-mul {n₁ = a} {m₁ = a} {n₂ = b} {m₂ = b} h h
-
-pub apart_small : (a b : ℕ) → a ≤ 200000 → b ≤ 200000 → apart a b ≤ 200000
-apart_small a b p q = omega arith
-
-pub square_small : (a b : ℕ) → a ≤ 200000 → b ≤ 200000 → apart a b * apart a b ≤ 40000000000
-square_small a b p q = square_le (apart a b) 200000 (apart_small a b p q)
-
-pub ruleset squares = (apart_small, square_small)
 
 -- a number is at most its square
 at_most_square : (a : ℕ) → a ≤ a * a

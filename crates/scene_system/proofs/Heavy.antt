@@ -8,7 +8,7 @@ use Rattle.fx_base.proofs.Order.{le_refl_f, le_trans_f, lt_le_trans_f, add_le_f}
 use Rattle.fx_base.proofs.Ratios.{ratio_num, ratio_den, ratio_le, le_ratio, le_ratio_back}
 use Rattle.interval_system.specs.Whole.{total}
 use Rattle.interval_system.specs.System.{high_weight, upper_total}
-use Rattle.scene_system.specs.RowSums.{row_sum, slack, most_of_row, in_thousandths, HeavyHasCause, MildIsServed, NoneHeavyIsMild}
+use Rattle.scene_system.specs.RowSums.{row_sum, slack, most_of_row, in_thousandths, HeavyHasCause, MildIsServed, NoneIsShownHeavy}
 use Rattle.scene_system.specs.Scene.{patch_count}
 use Rattle.scene_system.proofs.Rows.{rows_are, row-total, row_below, row_above, light_row}
 
@@ -61,8 +61,8 @@ heavy_has_cause room s row sum accepted formed scene first =
       sum_below = λ n deep. le_trans_f (thousandths_below sum) (add_le_f (below n) (le_refl_f (ratio 1 1000)));
     }
 
-pub none_heavy_is_mild : NoneHeavyIsMild
-none_heavy_is_mild room s accepted formed scene none i n k =
+pub none_is_shown_heavy : NoneIsShownHeavy
+none_is_shown_heavy room s accepted formed scene none i n k =
     le_trans_f (row_above n room s i scene k) (light_most (total (patch_count room) (high_weight s.system i)) (light_row room s formed scene none i k))
 
 pub mild_is_served : MildIsServed

@@ -14,11 +14,12 @@ use Rattle.interval_system.specs.System.{IsSystem, NoneHeavy, no_weight, weight_
 use Rattle.room_layout.specs.Accepted.{IsAccepted}
 use Rattle.room_layout.specs.Place.{Place}
 use Rattle.room_layout.specs.declared.geometry.Face.{Face}
+use Rattle.room_layout.specs.declared.geometry.Face.TheVariants.{Up}
 use Rattle.room_layout.specs.declared.room.Room.{Room}
 use Rattle.form_factor.proofs.Coefficients.{narrows, close_of}
-use Rattle.scene_system.specs.Assembled.{Numbers, IsWellFormed, IsSceneOf, IsWeightAt}
+use Rattle.scene_system.specs.Assembled.{Numbers, point_weight, HasNearWeights, IsWellFormed, IsSceneOf, IsWeightAt}
 use Rattle.scene_system.specs.RowSums.{row_sum, slack, RowsStayBelowOne}
-use Rattle.scene_system.specs.Scene.{patch_count, patch_of, patch_place, patch_face, loose_coefficient_at, lit, loose}
+use Rattle.scene_system.specs.Scene.{patch_count, patch_of, patch_place, patch_face, task_point_place, loose_coefficient_at, lit, loose}
 use Rattle.scene_system.specs.Light.{is_clear}
 use Rattle.scene_system.proofs.Orders.{patch_reaches}
 
@@ -109,6 +110,12 @@ weight_above n room s i j scene k l = (scene.weights i j k l).high n
 pub weight_close : (n : ℕ) (room : Room) (p : Place) (face : Face) (j : ℕ) (w : Weight) → IsWeightAt room p face j w
     → LiesIn (record { lo = ticks w.lo; hi = ticks w.hi }) (loose_coefficient_at n room p face j)
 weight_close n room p face j w is = close_of p face (patch_of room j) (is_clear room p (patch_place room j)) w is n
+
+pub near_weights : (room : Room) (s : Numbers) → IsSceneOf room s → HasNearWeights room s
+near_weights room s scene = record {
+  weights = λ n i j a b. weight_close n room (patch_place room i) (patch_face room i) j (weight_at s.system i j) (scene.weights i j a b);
+  point_weights = λ n g j a b. weight_close n room (task_point_place room g) Up j (point_weight s g j) (scene.point_weights g j a b);
+}
 
 -- ---- row sums against each other
 

@@ -12,10 +12,10 @@ use Rattle.patch_mesh.specs.Patches.{patches}
 use Rattle.patch_mesh.specs.TaskPoints.{task_points}
 use Rattle.patch_mesh.specs.declared.patch.Patch.{Patch}
 use Rattle.patch_mesh.specs.declared.patch.TaskPoint.{TaskPoint}
-use Rattle.form_factor.specs.Weights.{IsCoefficient}
+use Rattle.form_factor.specs.Weights.{IsCoefficient, of_weight}
 use Rattle.interval_system.specs.System.{System, IsSystem, IsDirectLight, IsRow, no_weight, no_light, weight_at, direct_at}
 use Rattle.scene_system.specs.Light.{is_clear, direct_light, loose_direct_light}
-use Rattle.scene_system.specs.Scene.{patch_count, patch_of, patch_place, patch_face, task_point_place}
+use Rattle.scene_system.specs.Scene.{patch_count, patch_of, patch_place, patch_face, task_point_place, loose_coefficient_at}
 use Rattle.scene_system.specs.declared.scene.Scene.{Scene}
 
 -- ---- the numbers of a scene
@@ -79,3 +79,10 @@ pub record IsSceneOf (room : Room) (s : Numbers) : Type 0 where
   pub lights : (i : ℕ) → i < patch_count room → IsDirect room (patch_place room i) (patch_face room i) (direct_at s.system i)
   pub point_weights : (g j : ℕ) → g < length s.points → j < patch_count room → IsWeightAt room (task_point_place room g) Up j (point_weight s g j)
   pub point_lights : (g : ℕ) → g < length s.points → IsDirect room (task_point_place room g) Up (point_light s g)
+
+-- the weights lie in the loose coefficients, at every depth
+pub record HasNearWeights (room : Room) (s : Numbers) : Type 0 where
+  pub weights : (n i j : ℕ) → i < patch_count room → j < patch_count room
+      → LiesIn (of_weight (weight_at s.system i j)) (loose_coefficient_at n room (patch_place room i) (patch_face room i) j)
+  pub point_weights : (n g j : ℕ) → g < length s.points → j < patch_count room
+      → LiesIn (of_weight (point_weight s g j)) (loose_coefficient_at n room (task_point_place room g) Up j)

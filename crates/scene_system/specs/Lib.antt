@@ -6,3 +6,4 @@ pub mod Positions
 pub mod Parts
 pub mod RowSums
 pub mod Laws
+mod SceneTests

@@ -1,4 +1,4 @@
--- The places at which the program computes, and the light that it finds there.
+-- The light of one lamp that the program finds at a place.
 use Rattle.std.specs.Prelude.{ℕ, ◌*◌, ◌≤◌, ◌^◌, pos, ◌≤ℤ◌}
 use Rattle.fx_base.specs.Ends.{Ends}
 use Rattle.fx_base.specs.Interval.{Meets, LiesIn}
@@ -9,16 +9,6 @@ use Rattle.room_layout.specs.declared.room.Lamp.{Lamp}
 use Rattle.room_layout.specs.declared.room.Room.{Room}
 use Rattle.scene_system.specs.Causes.{candela_of}
 use Rattle.scene_system.specs.Light.{lamp_light, loose_lamp_light}
-use Rattle.scene_system.specs.declared.position.Position.{Position}
-
-abbrev pub place_at : Position → Place
-place_at p = record { x = p.x; y = p.y; z = p.z }
-
--- within 100 m of the corner along each axis
-pub record IsWithinReach (p : Position) : Type 0 where
-  pub x : p.x ≤ 200000
-  pub y : p.y ≤ 200000
-  pub z : p.z ≤ 200000
 
 -- the most that a lamp of one candela gives, in ticks: at half a millimetre
 abbrev pub most_of_candela : ℕ

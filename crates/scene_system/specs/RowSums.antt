@@ -53,8 +53,8 @@ pub record IsMild (room : Room) : Type 0 where
 abbrev pub HeavyHasCause : Type 0
 HeavyHasCause = (room : Room) (s : Numbers) (row sum : ℕ) → IsAccepted room → IsWellFormed s → IsSceneOf room s → IsFirstHeavy s.system.rows row sum → MayBeHeavy room row (in_thousandths sum)
 
-abbrev pub NoneHeavyIsMild : Type 0
-NoneHeavyIsMild = (room : Room) (s : Numbers) → IsAccepted room → IsWellFormed s → IsSceneOf room s → NoneHeavy s.system.rows → NoneIsHeavy room
+abbrev pub NoneIsShownHeavy : Type 0
+NoneIsShownHeavy = (room : Room) (s : Numbers) → IsAccepted room → IsWellFormed s → IsSceneOf room s → NoneHeavy s.system.rows → NoneIsHeavy room
 
 abbrev pub MildIsServed : Type 0
 MildIsServed = (room : Room) (s : Numbers) → IsAccepted room → IsWellFormed s → IsSceneOf room s → IsMild room → NoneHeavy s.system.rows

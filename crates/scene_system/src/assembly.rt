@@ -1,6 +1,6 @@
 ghost use Rattle.std.specs.Prelude.{◌<◌, ◌≤◌, All, IfOk, IfErr};
 ghost use Rattle.room_layout.specs.Accepted.{IsAccepted, IsPlainLamp};
-ghost use Rattle.scene_system.specs.Assembled.{numbers, open_points, IsSceneOf, IsWellFormed};
+ghost use Rattle.scene_system.specs.Assembled.{numbers, open_points, HasNearWeights, IsSceneOf, IsWellFormed};
 ghost use Rattle.scene_system.specs.Causes.{greatest_candela, total_candela, IsCause, IsWithinLimits};
 ghost use Rattle.scene_system.specs.Parts.{ArePatchesOf, AreTaskPointsOf};
 
@@ -51,10 +51,12 @@ fn scene_of(
 }
 
 /// The scene of a room whose lamps shine evenly, each from one point.
+#[tactic(auto, using(crate::proofs::Rows::near_weights))]
 pub fn assemble(alloc: Global, room: &Room) -> Result<Scene, SceneFault>
     requires accepted { IsAccepted room.now }
     requires plain { All IsPlainLamp room.now.lamps }
     ensures scene { IfOk result (λ s. IsSceneOf room.now (numbers s)) }
+    ensures near { IfOk result (λ s. HasNearWeights room.now (numbers s)) }
     ensures formed { IfOk result (λ s. IsWellFormed (numbers s)) }
     ensures within { IfOk result (λ _. IsWithinLimits room.now) }
     ensures refused { IfErr result (λ fault. IsCause room.now fault) }

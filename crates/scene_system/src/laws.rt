@@ -1,6 +1,6 @@
 //! What holds of the definitions in `specs/`, each as the contract of a function that does nothing.
 ghost use Rattle.scene_system.specs.Laws.{LitIsInOrder};
-ghost use Rattle.scene_system.specs.RowSums.{HeavyHasCause, MildIsServed, NoneHeavyIsMild, RowsStayBelowOne};
+ghost use Rattle.scene_system.specs.RowSums.{HeavyHasCause, MildIsServed, NoneIsShownHeavy, RowsStayBelowOne};
 
 /// The enclosures of the coefficients and of the direct light of an accepted room aren't empty, at any depth, in the exact and in the
 /// loose form.
@@ -15,8 +15,8 @@ pub fn heavy_has_cause()
 {}
 
 /// Where no row of the scene is heavy, no row's sum of coefficients is shown to be above 255/256 at any depth.
-pub fn none_heavy_is_mild()
-    ensures { NoneHeavyIsMild }
+pub fn none_is_shown_heavy()
+    ensures { NoneIsShownHeavy }
 {}
 
 /// Where each row's sum of coefficients is shown at some depth from 2 to be at most 255/256 less the slack, no row of the scene is

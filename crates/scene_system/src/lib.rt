@@ -8,7 +8,6 @@ mod fault;
 pub mod laws;
 mod light;
 mod limits;
-mod position;
 mod scene;
 mod sight;
 mod weights;

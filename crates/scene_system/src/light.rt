@@ -12,8 +12,8 @@ ghost use Rattle.scene_system.specs.Causes.{greatest_candela, total_candela};
 ghost use Rattle.scene_system.specs.Light.{fallen, loosened};
 ghost use Rattle.scene_system.specs.Positions.{IsLampLight, most_of_candela};
 
-use crate::position::{in_front, position_of, squared_distance};
 use crate::sight::is_clear;
+use form_factor::{in_front, position_of, squared_distance};
 use fx_base::Span;
 use room_layout::{Face, Lamp, Point, Room, Shine};
 

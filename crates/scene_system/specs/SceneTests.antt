@@ -1,0 +1,309 @@
+-- Lamps, causes, scenes and row sums of small rooms, computed. The values are worked out by hand; those with pi in them are in the
+-- comments.
+use Rattle.std.specs.Prelude.{ℕ, ◌≡◌, ◌≤◌, ◌&&◌, nat_lt, List, [], ◌∷◌, None, true, false, refl}
+use Rattle.std.proofs.Common.{lit<, lit≤}
+use Rattle.fx_base.specs.Fraction.{at_most, ratio, whole, half_power, ◌≈ᶠ◌, ◌+ᶠ◌, ◌-ᶠ◌, ◌*ᶠ◌, ◌/ᶠ◌, sum_to}
+use Rattle.fx_base.specs.Interval.{exact}
+use Rattle.fx_base.specs.Root.{halved, root}
+use Rattle.fx_base.specs.Search.{root_digits, whole_root}
+use Rattle.series_enclose.specs.Series.{upper_sum, lower_sum, power_over, arctan_term, one_fifth, one_of_239, pi}
+use Rattle.room_layout.specs.Place.{Place, in_front, squared_distance, task_place}
+use Rattle.room_layout.specs.declared.geometry.Face.TheVariants.{Up, Down, East}
+use Rattle.room_layout.specs.declared.room.Block.{Block}
+use Rattle.room_layout.specs.declared.room.Lamp.{Lamp}
+use Rattle.room_layout.specs.declared.room.Room.{Room}
+use Rattle.room_layout.specs.declared.room.Shine.TheVariants.{Even, File}
+use Rattle.sight_line.specs.Sight.{meets_box, is_blocked}
+use Rattle.patch_mesh.specs.Surfaces.{surfaces}
+use Rattle.patch_mesh.specs.Patches.{tiling_of, patch_at, row_patches, whole_row, first_rows, tiling_patches, tilings, patches}
+use Rattle.patch_mesh.specs.TaskPoints.{task_point, row_points, task_points}
+use Rattle.patch_mesh.specs.TaskPoints as points
+use Rattle.form_factor.specs.Coefficient.{kernel, fronts, coefficient}
+use Rattle.scene_system.specs.Light.{lamp_place, falloff, share_of, share, loosened, loose_intensity, loose_share, is_clear, lamp_light, loose_lamp_light, light_of_first, loose_light_of_first, direct_light, loose_direct_light}
+use Rattle.scene_system.specs.Scene.{patch_count, patch_place, patch_face, task_point_place, lit, loose}
+use Rattle.scene_system.specs.Assembled.{open_points}
+use Rattle.scene_system.specs.Causes.{candela_of, total_candela, IsCause, IsWithinLimits}
+use Rattle.scene_system.specs.RowSums.{row_sum, slack, in_thousandths}
+use Rattle.scene_system.specs.declared.fault.SceneFault.TheVariants.{TotalIntensity, NoTaskPoint}
+
+-- fractions, roots, places and lamps
+unfoldable of_light : Unit {0}
+unfolding ratio whole half_power ◌+ᶠ◌ ◌-ᶠ◌ ◌*ᶠ◌ ◌/ᶠ◌ sum_to halved root root_digits whole_root in_front squared_distance is_blocked meets_box lamp_place falloff share_of loosened is_clear lamp_light loose_lamp_light light_of_first loose_light_of_first
+of_light = tt
+
+-- patches and task points
+unfoldable of_mesh : Unit {0}
+unfolding surfaces tiling_of patch_at row_patches whole_row first_rows tiling_patches tilings patches task_place task_point row_points points.whole_row points.first_rows task_points
+of_mesh = tt
+
+-- pi and coefficients
+unfoldable of_weights : Unit {0}
+unfolding upper_sum lower_sum power_over arctan_term one_fifth one_of_239 pi kernel fronts coefficient
+of_weights = tt
+
+-- ---- rooms
+
+abbrev lamp_at : ℕ → ℕ → ℕ → ℕ → Lamp
+lamp_at a b c candela = record { at = record { x = a; y = b; z = c }; shine = Even candela; turn = 0; maintenance = 1000; size_x = 0; size_y = 0; split_x = 1; split_y = 1 }
+
+-- a cube of this edge and reflectance, with one patch to a face and one task point in the middle of the floor
+abbrev cube_of : ℕ → ℕ → List Block → List Lamp → Room
+cube_of edge reflect blocks lamps = record {
+  size = record { x = edge; y = edge; z = edge };
+  reflect = record { floor = reflect; ceiling = reflect; x0 = reflect; x1 = reflect; y0 = reflect; y1 = reflect };
+  patch = edge;
+  blocks = blocks;
+  lamps = lamps;
+  files = [];
+  task = record { from_x = 0; from_y = 0; to_x = edge; to_y = edge; height = 0; nx = 1; ny = 1 };
+  limits = record { average = None; uniformity = None };
+}
+
+abbrev box : Block
+box = record { lo = record { x = 1000; y = 1000; z = 1000 }; hi = record { x = 2000; y = 2000; z = 2000 }; reflect = 0 }
+
+-- 3 m on each edge with two lamps of 2,500 cd in the middle of the ceiling
+abbrev two_lamps : Room
+two_lamps = cube_of 3000 0 [] (lamp_at 1500 1500 3000 2500 ∷ lamp_at 1500 1500 3000 2500 ∷ [])
+
+-- the same with a box of 1 m in its middle
+abbrev furnished : Room
+furnished = cube_of 3000 0 (box ∷ []) (lamp_at 1500 1500 3000 2500 ∷ [])
+
+-- 2 m on each edge, and each surface reflects a half
+abbrev cube : Room
+cube = cube_of 2000 500 [] (lamp_at 1000 1000 1000 200 ∷ [])
+
+-- only the ceiling reflects
+abbrev bright_ceiling : Room
+bright_ceiling = record cube { reflect = record { floor = 0; ceiling = 500; x0 = 0; x1 = 0; y0 = 0; y1 = 0 } }
+
+abbrev floor : Place
+floor = record { x = 3000; y = 3000; z = 0 }
+
+abbrev overhead : Place
+overhead = record { x = 3000; y = 3000; z = 6000 }
+
+-- ---- the points of a lamp
+
+-- 600 by 400 mm in two by two parts: 5,700 and 6,300 along x, 5,800 and 6,200 along y; along x first
+abbrev split_lamp : Lamp
+split_lamp = record { at = record { x = 3000; y = 3000; z = 3000 }; shine = Even 1; turn = 0; maintenance = 1000; size_x = 600; size_y = 400; split_x = 2; split_y = 2 }
+
+second_part : lamp_place split_lamp 1 ≡ record { x = 6300; y = 5800; z = 6000 }
+unfolding lamp_place
+second_part = refl
+
+third_part : lamp_place split_lamp 2 ≡ record { x = 5700; y = 6200; z = 6000 }
+unfolding lamp_place
+third_part = refl
+
+-- ---- the light of one point
+
+-- 5,000 cd at three quarters, 3 m away and straight above: 3750 / 9
+kept_light : falloff 750 1 6000 36000000 (whole 5000) (whole 6000) ≈ᶠ ratio 1250 3
+unfolding of_light
+kept_light = record { cross = refl }
+
+-- one of two parts has half of it
+half_light : falloff 1000 2 6000 36000000 (whole 5000) (whole 6000) ≈ᶠ ratio 2500 9
+unfolding of_light
+half_light = record { cross = refl }
+
+-- at half of the cosine, half of it: 3,000 half mm above the plane and 6,000 away
+slanted_light : falloff 1000 1 3000 36000000 (whole 5000) (whole 6000) ≈ᶠ ratio 2500 9
+unfolding of_light
+slanted_light = record { cross = refl }
+
+-- 36,000,000 is a square: the upper end, which has the root's lower end, is exact, and the lower end has 6,001 in place of 6,000
+share_above : (share 0 (lamp_at 1500 1500 3000 5000) overhead floor Up true).hi ≈ᶠ ratio 5000 9
+unfolding of_light
+share_above = record { cross = refl }
+
+share_below : (share 0 (lamp_at 1500 1500 3000 5000) overhead floor Up true).lo ≈ᶠ (ratio 5000 9 *ᶠ ratio 6000 6001)
+unfolding of_light
+share_below = record { cross = refl }
+
+-- a plane that faces down has none of a lamp above it
+share_behind : share 0 (lamp_at 1500 1500 3000 5000) overhead floor Down true ≡ exact (whole 0)
+unfolding share_of in_front
+share_behind = refl
+
+-- nor has a lamp in the plane itself
+share_in_plane : share 0 (lamp_at 1500 1500 3000 5000) (record { x = 0; y = 0; z = 0 }) floor Up true ≡ exact (whole 0)
+unfolding share_of in_front
+share_in_plane = refl
+
+share_hidden : share 0 (lamp_at 1500 1500 3000 5000) overhead floor Up false ≡ exact (whole 0)
+unfolding share_of
+share_hidden = refl
+
+-- ---- its loose form
+
+loose_candela : (loose_intensity (Even 1)).hi ≈ᶠ ratio 1073741825 1073741824
+unfolding of_light
+loose_candela = record { cross = refl }
+
+loosened_up : (loosened (exact (whole 16777216))).hi ≈ᶠ (whole 16777217 +ᶠ ratio 1 1048576)
+unfolding of_light
+loosened_up = record { cross = refl }
+
+loosened_down : (loosened (exact (whole 16777216))).lo ≈ᶠ (whole 16777215 -ᶠ ratio 1 1048576)
+unfolding of_light
+loosened_down = record { cross = refl }
+
+-- nothing is kept at nothing below, and may be 2^-20 lux above
+nothing_below : (loosened (exact (whole 0))).lo.num ≡ 0
+unfolding of_light
+nothing_below = refl
+
+nothing_above : (loosened (exact (whole 0))).hi ≈ᶠ ratio 1 1048576
+unfolding of_light
+nothing_above = record { cross = refl }
+
+-- a share that is hidden is loose too
+loose_hidden : (loose_share 0 (lamp_at 1500 1500 3000 5000) overhead floor Up false).hi ≈ᶠ ratio 1 1048576
+unfolding of_light
+loose_hidden = record { cross = refl }
+
+-- ---- sight, and all lamps
+
+through_the_box : is_clear furnished floor overhead ≡ false
+unfolding is_clear is_blocked meets_box
+through_the_box = refl
+
+along_the_box : is_clear furnished (record { x = 0; y = 2000; z = 3000 }) (record { x = 6000; y = 2000; z = 3000 }) ≡ true
+unfolding is_clear is_blocked meets_box
+along_the_box = refl
+
+light_through_the_box : (direct_light 0 furnished floor Up).hi.num ≡ 0
+unfolding of_light
+light_through_the_box = refl
+
+-- two lamps of 2,500 cd give what one of 5,000 cd gives
+light_of_two : (direct_light 0 two_lamps floor Up).hi ≈ᶠ ratio 5000 9
+unfolding of_light
+light_of_two = record { cross = refl }
+
+-- 5000 / 9 lux lies in the enclosure of depth 2, which is 0.0232 lux wide, and the loose form is wider on both sides
+light_at_depth_2 : (at_most (direct_light 2 two_lamps floor Up).lo (ratio 5000 9) && at_most (direct_light 2 two_lamps floor Up).hi ((direct_light 2 two_lamps floor Up).lo +ᶠ ratio 1 40)) ≡ true
+unfolding of_light
+light_at_depth_2 = refl
+
+loose_light_at_depth_2 : (at_most (loose_direct_light 2 two_lamps floor Up).lo (direct_light 2 two_lamps floor Up).lo && at_most (direct_light 2 two_lamps floor Up).hi (loose_direct_light 2 two_lamps floor Up).hi) ≡ true
+unfolding of_light
+loose_light_at_depth_2 = refl
+
+-- ---- causes
+
+all_candela : total_candela two_lamps ≡ 5000
+all_candela = refl
+
+-- a photometric file has no candela of its own
+candela_of_a_file : candela_of (record split_lamp { shine = File 0 }) ≡ 0
+candela_of_a_file = refl
+
+too_bright : IsCause (cube_of 3000 0 [] (lamp_at 0 0 0 6000000 ∷ lamp_at 0 0 0 4000001 ∷ [])) TotalIntensity
+too_bright = lit< tt
+
+just_not_too_bright : total_candela (cube_of 3000 0 [] (lamp_at 0 0 0 6000000 ∷ lamp_at 0 0 0 4000000 ∷ [])) ≤ 10000000
+just_not_too_bright = lit≤ tt
+
+-- the task of one point in the middle of the box
+abbrev covered : Room
+covered = record furnished { task = record { from_x = 1000; from_y = 1000; to_x = 2000; to_y = 2000; height = 1500; nx = 1; ny = 1 } }
+
+none_open : open_points (task_points covered) ≡ 0
+unfolding of_mesh
+none_open = refl
+
+-- at the height of the box's top the point isn't covered
+one_open : open_points (task_points (record covered { task = record { from_x = 1000; from_y = 1000; to_x = 2000; to_y = 2000; height = 2000; nx = 1; ny = 1 } })) ≡ 1
+unfolding of_mesh
+one_open = refl
+
+no_task_point : IsCause covered NoTaskPoint
+unfolding of_mesh
+no_task_point = (lit≤ tt, lit≤ tt, refl)
+
+cube_within : IsWithinLimits cube
+unfolding of_mesh
+cube_within = record { dim = lit≤ tt; few = lit≤ tt; some_open = lit< tt }
+
+-- ---- the scene of the cube
+
+six_patches : patch_count cube ≡ 6
+unfolding of_mesh
+six_patches = refl
+
+third_patch : patch_place cube 2 ≡ record { x = 0; y = 2000; z = 2000 }
+unfolding of_mesh
+third_patch = refl
+
+third_face : patch_face cube 2 ≡ East
+unfolding of_mesh
+third_face = refl
+
+middle_of_the_floor : task_point_place cube 0 ≡ record { x = 2000; y = 2000; z = 0 }
+unfolding of_mesh
+middle_of_the_floor = refl
+
+-- one metre before the lamp of 200 cd: 200 lux on the floor and at its task point, and 2,000 is a whole root
+light_of_the_floor : ((lit 0 cube).patches.direct 0).hi ≈ᶠ whole 200
+unfolding of_light of_mesh
+light_of_the_floor = record { cross = refl }
+
+light_of_the_point : ((lit 0 cube).direct 0).hi ≈ᶠ whole 200
+unfolding of_light of_mesh
+light_of_the_point = record { cross = refl }
+
+nothing_to_itself : ((lit 0 cube).patches.coefficient 0 0).hi.num ≡ 0
+unfolding of_light of_mesh of_weights
+nothing_to_itself = refl
+
+loose_to_itself : ((loose 0 cube).patches.coefficient 0 0).hi ≈ᶠ half_power 32
+unfolding of_light of_mesh of_weights
+loose_to_itself = record { cross = refl }
+
+-- patch j lights patch i by the reflectance of j: the floor has light of the bright ceiling, and the ceiling none of the dark floor
+floor_of_the_ceiling : nat_lt 0 ((lit 0 bright_ceiling).patches.coefficient 0 1).lo.num ≡ true
+unfolding of_light of_mesh of_weights
+floor_of_the_ceiling = refl
+
+ceiling_of_the_floor : ((lit 0 bright_ceiling).patches.coefficient 1 0).hi.num ≡ 0
+unfolding of_light of_mesh of_weights
+ceiling_of_the_floor = refl
+
+-- floor and ceiling at depth 0, where pi is 3.140596.. to 3.183263..: 1 / (2 (pi + 1)) from 0.1195239 to 0.1207556
+floor_and_ceiling : (at_most (ratio 119523 1000000) ((lit 0 cube).patches.coefficient 0 1).lo && at_most ((lit 0 cube).patches.coefficient 0 1).lo (ratio 119524 1000000)
+    && at_most (ratio 120755 1000000) ((lit 0 cube).patches.coefficient 0 1).hi && at_most ((lit 0 cube).patches.coefficient 0 1).hi (ratio 120756 1000000)) ≡ true
+unfolding of_light of_mesh of_weights
+floor_and_ceiling = refl
+
+-- the task point on the floor's centre has the floor's coefficients
+point_and_ceiling : (at_most (ratio 119523 1000000) ((lit 0 cube).coefficient 0 1).lo && at_most ((lit 0 cube).coefficient 0 1).hi (ratio 120756 1000000)) ≡ true
+unfolding of_light of_mesh of_weights
+point_and_ceiling = refl
+
+-- ---- row sums
+
+-- (1 / (pi + 1) + 4 / (pi + 2)) / 2 is 0.509711.., and at depth 0 from 0.505381 to 0.509816
+row_of_the_floor : (at_most (ratio 505381 1000000) (row_sum 0 cube 0).lo && at_most (row_sum 0 cube 0).lo (ratio 505382 1000000)
+    && at_most (ratio 509815 1000000) (row_sum 0 cube 0).hi && at_most (row_sum 0 cube 0).hi (ratio 509816 1000000)) ≡ true
+unfolding of_light of_mesh of_weights
+row_of_the_floor = refl
+
+slack_of_six : slack cube ≈ᶠ ratio 6 4294967296
+unfolding of_light of_mesh
+slack_of_six = record { cross = refl }
+
+one_in_thousandths : in_thousandths 68719476736 ≡ 1000
+one_in_thousandths = refl
+
+-- a tick more is a thousandth more
+above_one_in_thousandths : in_thousandths 68719476737 ≡ 1001
+above_one_in_thousandths = refl
+
+-- 255/256 is 0.99609..
+most_in_thousandths : in_thousandths 68451041280 ≡ 997
+most_in_thousandths = refl
