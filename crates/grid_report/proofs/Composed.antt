@@ -232,6 +232,7 @@ values_are_points room s lower upper values accepted formed scene light lower_is
       count = count;
       each = λ g d inside. point_is room s lower upper g (slice_index_or values g d) b (let c = are.count in omega (arith, c, inside)) (are.each g d inside);
       rows = λ n deep. (rows_below room s n accepted formed scene light deep).0;
+      loose_rows = λ n deep. (rows_below room s n accepted formed scene light deep).1;
       order = λ n g deep inside. value_order (lit n room) g ((in_order n room accepted).0) ((rows_below room s n accepted formed scene light deep).0) (omega (arith, count, inside));
       loose_order = λ n g deep inside. value_order (loose n room) g ((in_order n room accepted).1) ((rows_below room s n accepted formed scene light deep).1) (omega (arith, count, inside));
     }

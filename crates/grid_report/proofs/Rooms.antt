@@ -287,6 +287,7 @@ few_ticks t e = rw e (record { cross = omega arith })
 
 narrow : (room : Room) (vs : List PointValue) (r : Report) → ArePoints room vs → 0 < open_total vs → IsReportOf room.task.nx vs r → IsNarrow room r
 narrow room vs r are some of = record {
+  rows = are.loose_rows;
   each_point = λ g. rw of.points_are (points_near room vs are g);
   the_average = λ n h. rw of.average_is (printed_near 2049 (average_low vs) (average_high vs) (average (grid (loose n room))) (omega arith)
       (average_near_low 2048 (grid (loose n room)) vs (near room vs n h are) some) (average_near_high 2048 (grid (loose n room)) vs (near room vs n h are) some));
@@ -298,6 +299,8 @@ narrow room vs r are some of = record {
         lower = down_uniformity_near 2048 (grid (loose n room)) vs s.a e.lo (near room vs n h are) some s.order s.least_low s.down one;
         upper = up_uniformity_near 2048 (grid (loose n room)) vs s.b e.hi (near room vs n h are) some s.least_high s.up one;
       });
+  at_most_one = some_case r.uniformity (average_low vs ≡ 0) (IsPrintedUniformity vs) (λ e. e.hi ≤ 1000) of.uniformity_is
+      (λ e i. (shares_of room vs e are some i).up.most);
   lower_by_ends = some_case r.uniformity (average_low vs ≡ 0) (IsPrintedUniformity vs)
       (λ e. IfSome (least_end (λ (d : Printed). d.lo) r.points) (λ low. ratio low r.average.hi ≤ᶠ (ratio e.lo 1000 +ᶠ ratio 1 1000))) of.uniformity_is
       (λ e i. let s = shares_of room vs e are some i in

@@ -43,11 +43,14 @@ least_end side (None ∷ more) = least_end side more
 least_end side (Some e ∷ more) = elim (least_end side more) [ None ↦ Some (side e) | Some m ↦ Some (min (side e) m) ]
 
 pub record IsNarrow (room : Room) (r : Report) : Type 0 where
+  -- so that the loose equations have one solution at each depth
+  pub rows : AtEachDepth (λ n. RowsBelowOne (patch_count room) (λ i j. ((loose n room).patches.coefficient i j).hi))
   pub each_point : (g : ℕ) → IfSome (ends_at r g) (λ e. AtEachDepth (λ n. LiesIn (said 100 e) (outward (ratio 12 1000) (value (loose n room) g))))
   pub the_average : AtEachDepth (λ n. LiesIn (said 100 r.average) (outward (ratio 12 1000) (average (grid (loose n room)))))
   pub none : IfNone r.uniformity (AtEachDepth (λ n. (average (grid (loose n room))).lo <ᶠ half_power 20))
   pub the_uniformity : IfSome r.uniformity (λ e. AtEachDepth (λ n.
       whole 1 ≤ᶠ (average (grid (loose n room))).lo → LiesIn (said 1000 e) (outward (ratio 2 1000) (uniformity (grid (loose n room))))))
+  pub at_most_one : IfSome r.uniformity (λ e. e.hi ≤ 1000)
   pub lower_by_ends : IfSome r.uniformity (λ e. IfSome (least_end (λ (d : Printed). d.lo) r.points) (λ low.
       ratio low r.average.hi ≤ᶠ (ratio e.lo 1000 +ᶠ ratio 1 1000)))
   pub upper_by_ends : IfSome r.uniformity (λ e. IfSome (least_end (λ (d : Printed). d.hi) r.points) (λ high.

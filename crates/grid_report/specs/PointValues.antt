@@ -53,5 +53,6 @@ pub record ArePoints (room : Room) (values : List PointValue) : Type 0 where
   pub count : length values ≡ room.task.nx * room.task.ny
   pub each : (g : ℕ) (d : PointValue) → g < length values → IsPoint room g (slice_index_or values g d)
   pub rows : (n : ℕ) → 2 ≤ n → RowsBelowOne (patch_count room) (λ i j. ((lit n room).patches.coefficient i j).hi)
+  pub loose_rows : (n : ℕ) → 2 ≤ n → RowsBelowOne (patch_count room) (λ i j. ((loose n room).patches.coefficient i j).hi)
   pub order : (n g : ℕ) → 2 ≤ n → g < length values → InOrder (value (lit n room) g)
   pub loose_order : (n g : ℕ) → 2 ≤ n → g < length values → InOrder (value (loose n room) g)

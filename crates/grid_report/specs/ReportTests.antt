@@ -7,7 +7,7 @@ use Rattle.interval_system.specs.Values.{Grid, open_count, open_sum, mean, least
 use Rattle.radiosity_solve.specs.Shown.{down_to, up_to}
 use Rattle.grid_report.specs.Headline.{least_end}
 use Rattle.grid_report.specs.Printed.{Printed, point_lines, report_text}
-use Rattle.grid_report.specs.Reports.{in_thousandths}
+use Rattle.grid_report.specs.Reports.{in_cents, in_thousandths, printed_value}
 use Rattle.grid_report.specs.Rows.{sent_low, sent_high}
 use Rattle.grid_report.specs.Sums.{average_low, average_high}
 use Rattle.grid_report.specs.declared.value.PointValue.{PointValue}
@@ -61,3 +61,20 @@ covered_report = refl
 
 least_of_three : least_end (λ (d : Printed). d.lo) (Some (record { lo = 7; hi = 9 }) ∷ None ∷ Some (record { lo = 5; hi = 20 }) ∷ []) ≡ Some 5
 least_of_three = refl
+
+-- 5000 / 9 lux lies between two ticks, and is printed 555.55 555.56; 200 lux are whole
+cents_outward : in_cents 38177487075555 38177487075556 ≡ record { lo = 55555; hi = 55556 }
+cents_outward = refl
+
+whole_cents : in_cents 13743895347200 13743895347200 ≡ record { lo = 20000; hi = 20000 }
+whole_cents = refl
+
+-- a tick past a hundredth is printed as the next one
+cents_of_a_tick_more : in_cents 13743895347200 13743895347201 ≡ record { lo = 20000; hi = 20001 }
+cents_of_a_tick_more = refl
+
+nothing_printed : printed_value (record { covered = true; value = record { lo = pos 0; hi = pos 0 } }) ≡ None
+nothing_printed = refl
+
+ends_printed : printed_value (record { covered = false; value = record { lo = pos 13743895347200; hi = pos 13743895347201 } }) ≡ Some (record { lo = 20000; hi = 20001 })
+ends_printed = refl
