@@ -50,7 +50,7 @@ pub record WereRead (shelf : Shelf) (name bytes : List ℕ) : Type 0 where
 -- a right report, of a room within its limits that has no heavy row
 pub record IsReport (room : Room) (text : List ℕ) : Type 0 where
   pub within : IsWithinLimits room
-  pub mild : NoneIsHeavy room
+  pub none_heavy : NoneIsHeavy room
   pub report : Report
   pub text_is : text ≡ report_text report
   pub right : IsRight room report

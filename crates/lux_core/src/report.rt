@@ -19,7 +19,7 @@ use grid_report::{points, report_text};
 use interval_system::Heavy;
 use radiosity_solve::{Bounds, SolveFault, solve};
 use room_layout::Room;
-use scene_system::laws::{heavy_has_cause, none_heavy_is_mild};
+use scene_system::laws::{heavy_has_cause, none_is_shown_heavy};
 use scene_system::{Scene, SceneFault, assemble};
 use std::alloc::{AllocError, Global};
 
@@ -94,7 +94,7 @@ fn reply_of_scene(alloc: Global, room: &Room, scene: &Scene) -> Result<Reply, Al
     ensures { IfOk result (λ r. IsReportAnswer room.now r.status (string_bytes r.text)) }
 {
     heavy_has_cause();
-    none_heavy_is_mild();
+    none_is_shown_heavy();
     match solve(alloc, &scene.system) {
         Ok(bounds) => {
             let text = text_of_report(alloc, room, scene, &bounds)?;

@@ -3,9 +3,10 @@ mod faults;
 mod refusals;
 mod reports;
 mod sights;
+mod untold;
 
 use crate::{Status, lux};
-use lux_io::{MemShelf, MemSink};
+use lux_io::{MemShelf, MemSink, Shelf};
 use std::alloc::Global;
 use std::process::Abort;
 use std::test::Fail;
@@ -33,20 +34,51 @@ fn run(
     status: Status,
     text: &str,
 ) -> Result<(), Fail> {
-    let mut given = Vec::new(alloc);
-    for word in words {
-        given.push(String::from_str(alloc, word)?)?;
-    }
-    let mut shelf = MemShelf::new(alloc, world.failing).ok().ok_or("memory")?;
+    let mut shelf = shelf_of(alloc, room, world.failing)?;
+    run_over(
+        rt,
+        alloc,
+        words,
+        &mut shelf,
+        world.capacity,
+        status,
+        text.as_bytes(),
+    )
+}
+
+/// A shelf with one room file, `room.toml`, whose calls with these numbers fail.
+fn shelf_of(alloc: Global, room: &str, failing: &[u64]) -> Result<MemShelf, Fail> {
+    let mut shelf = MemShelf::new(alloc, failing).ok().ok_or("memory")?;
     shelf
         .add("room.toml", room.as_bytes())
         .ok()
         .ok_or("memory")?;
-    let mut out = MemSink::new(alloc, world.capacity, &[])
-        .ok()
-        .ok_or("memory")?;
-    let answer = lux(alloc, given.as_slice(), &mut shelf, &mut out);
-    assert!(rt; answer == status, "{text}");
-    assert!(rt; out.bytes() == text.as_bytes(), "{text}");
+    Ok(shelf)
+}
+
+/// A run of the words over a shelf, with an output that takes so many bytes: it ends with this status and has written these.
+fn run_over<S: Shelf>(
+    rt: &impl Abort,
+    alloc: Global,
+    words: &[&str],
+    shelf: &mut S,
+    capacity: usize,
+    status: Status,
+    written: &[u8],
+) -> Result<(), Fail> {
+    let mut given = Vec::new(alloc);
+    for word in words {
+        given.push(String::from_str(alloc, word)?)?;
+    }
+    let mut out = MemSink::new(alloc, capacity, &[]).ok().ok_or("memory")?;
+    let answer = lux(alloc, given.as_slice(), shelf, &mut out);
+    assert!(rt;
+        answer == status,
+        "{answer:?} with room for {capacity} bytes"
+    );
+    assert!(rt;
+        out.bytes() == written,
+        "the text with room for {capacity} bytes"
+    );
     Ok(())
 }

@@ -42,6 +42,8 @@ pub fn lux<S: lux_io::Shelf, O: Sink>(
     ensures write_fault { result ≡ Status.WriteFault → Rose (O.faults out.old) (O.faults out.new) }
     // Where an answer can be given and nothing fails, only want of memory is answered in its place.
     ensures complete { CanAnswer (map string_bytes words.now) (S.files shelf.old) → Stood (S.faults shelf.old) (S.faults shelf.new) → Stood (O.faults out.old) (O.faults out.new) → (result ≡ Status.Done) ⊎ (result ≡ Status.Memory) }
+    // The shelf holds what it held.
+    ensures files { S.files shelf.new ≡ S.files shelf.old }
     // Without memory nothing is written, and words that are no command want none.
     ensures memory { result ≡ Status.Memory → O.written out.new ≡ O.written out.old }
     ensures usage_needs_none { question_of (map string_bytes words.now) ≡ None → result ≢ Status.Memory }

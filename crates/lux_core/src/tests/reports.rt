@@ -136,6 +136,27 @@ fn a_furnished_room_is_reported(rt: HostRuntime) -> Result<(), Fail> {
 }
 
 #[test]
+fn the_study_of_the_examples_is_reported(rt: HostRuntime) -> Result<(), Fail> {
+    let alloc = rt.alloc();
+    let rest =
+        "patch = 500\n[[box]]\nlo = [2500, 500, 0]\nhi = [3500, 1700, 750]\nreflect = 350\n[[box]]\nlo = [0, 2200, 0]\nhi = [800, 3000, 2000]\nreflect = 600\n[[lamp]]\nat = [1000, 1500, 2400]\ncandela = 892\n[[lamp]]\nat = [3200, 1000, 2400]\ncandela = 412\n[task]\nfrom = [0, 0]\nto = [4000, 3000]\nheight = 750\npoints = [3, 2]\n";
+    let room = format!(in alloc; "{SIX}{rest}")?;
+    // 576.867131, 540.696007, 463.562816, covered, 461.682151, 318.176088; 472.196838; 0.673821
+    let text =
+        "point 0 0 576.86 576.87\npoint 1 0 540.69 540.70\npoint 2 0 463.56 463.57\npoint 0 1 covered\npoint 1 1 461.68 461.69\npoint 2 1 318.17 318.18\naverage 472.19 472.20\nuniformity 0.673 0.674\n";
+    run(
+        &rt,
+        alloc,
+        &REPORT,
+        room.as_str(),
+        &CALM,
+        Status::Done,
+        text,
+    )?;
+    Ok(())
+}
+
+#[test]
 fn a_point_inside_a_box_is_covered(rt: HostRuntime) -> Result<(), Fail> {
     let alloc = rt.alloc();
     let room =

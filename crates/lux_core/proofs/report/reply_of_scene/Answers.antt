@@ -9,7 +9,7 @@ returns-in_ok-text-in-Ok c =
     let h = c.in_ok-text-in-Ok.ensures in
     record {
       within = r.within;
-      mild = c.none_heavy_is_mild.ensures c.args.room.now (numbers c.args.scene.now) r.accepted r.formed r.scene c.in-Ok.ensures.none_heavy;
+      none_heavy = c.none_is_shown_heavy.ensures c.args.room.now (numbers c.args.scene.now) r.accepted r.formed r.scene c.in-Ok.ensures.none_heavy;
       report = h.0;
       text_is = h.2;
       right = h.1;

@@ -1,0 +1,154 @@
+-- Words and answers, computed.
+use Rattle.std.specs.Prelude.{◌≡◌, ◌++◌, ℕ, List, [], ◌∷◌, true, false, refl, codes, decimal, Some, None}
+use Rattle.std.specs.Fmt.{digits}
+use Rattle.std.proofs.Common.{lit≤, inl}
+use Rattle.decimal_text.specs.Decimals.{thousandths}
+use Rattle.grid_report.specs.Printed.{line}
+use Rattle.room_layout.specs.Place.{point_of}
+use Rattle.scene_system.specs.declared.fault.SceneFault.TheVariants as scene_fault
+use Rattle.lux_core.specs.Answers.{Shelf, IsAnswer, IsUsage, scene_fault_text}
+use Rattle.lux_core.specs.Codes.{status_code}
+use Rattle.lux_core.specs.Commands.{names_file, is_number, number_after, coordinate, question_of, room_name, usage_line}
+use Rattle.lux_core.specs.declared.status.Status.TheVariants as status
+use Rattle.lux_core.specs.declared.words.Question.TheVariants.{Report, Sight}
+
+-- ---- numbers
+
+zero_word : coordinate (codes "0") ≡ Some 0
+unfolding number_after
+zero_word = refl
+
+plain_word : coordinate (codes "1500") ≡ Some 1500
+unfolding number_after
+plain_word = refl
+
+greatest_word : coordinate (codes "100000") ≡ Some 100000
+unfolding number_after
+greatest_word = refl
+
+above_the_greatest : coordinate (codes "100001") ≡ None
+unfolding number_after
+above_the_greatest = refl
+
+-- past 64 bits
+long_word : coordinate (codes "18446744073709551617") ≡ None
+unfolding number_after
+long_word = refl
+
+leading_zero : coordinate (codes "01") ≡ None
+leading_zero = refl
+
+two_zeros : coordinate (codes "00") ≡ None
+two_zeros = refl
+
+empty_word : coordinate [] ≡ None
+empty_word = refl
+
+letter_after_a_digit : coordinate (codes "7x") ≡ None
+letter_after_a_digit = refl
+
+signed_word : coordinate (codes "-1") ≡ None
+signed_word = refl
+
+plus_word : coordinate (codes "+1") ≡ None
+plus_word = refl
+
+-- ---- names
+
+plain_name : names_file (codes "my room.toml") ≡ true
+plain_name = refl
+
+empty_name : names_file [] ≡ false
+empty_name = refl
+
+-- `a`, a line's end, `b`
+two_lines : names_file (97 ∷ 10 ∷ 98 ∷ []) ≡ false
+two_lines = refl
+
+delete_in_a_name : names_file (97 ∷ 127 ∷ []) ≡ false
+delete_in_a_name = refl
+
+-- ---- commands
+
+abbrev report_words : List (List ℕ)
+report_words = codes "report" ∷ codes "room.toml" ∷ []
+
+abbrev sight_words : List ℕ → List (List ℕ)
+sight_words last = codes "sight" ∷ codes "room.toml" ∷ codes "0" ∷ codes "1500" ∷ codes "20" ∷ codes "3000" ∷ codes "7" ∷ last ∷ []
+
+asks_for_a_report : question_of report_words ≡ Some Report
+asks_for_a_report = refl
+
+name_of_the_room : room_name report_words ≡ codes "room.toml"
+name_of_the_room = refl
+
+-- three words to a point, and a mm has two halves
+asks_for_sight : question_of (sight_words (codes "100000")) ≡ Some (Sight (point_of (record { x = 0; y = 3000; z = 40 })) (point_of (record { x = 6000; y = 14; z = 200000 })))
+unfolding number_after
+asks_for_sight = refl
+
+past_100_m : question_of (sight_words (codes "100001")) ≡ None
+unfolding number_after
+past_100_m = refl
+
+no_words : question_of [] ≡ None
+no_words = refl
+
+no_room : question_of (codes "report" ∷ []) ≡ None
+no_room = refl
+
+nameless_room : question_of (codes "report" ∷ [] ∷ []) ≡ None
+nameless_room = refl
+
+a_word_too_many : question_of (codes "report" ∷ codes "room.toml" ∷ codes "x" ∷ []) ≡ None
+a_word_too_many = refl
+
+capital_letter : question_of (codes "Report" ∷ codes "room.toml" ∷ []) ≡ None
+capital_letter = refl
+
+not_built_yet : question_of (codes "grid" ∷ codes "room.toml" ∷ []) ≡ None
+not_built_yet = refl
+
+seven_words : question_of (codes "sight" ∷ codes "room.toml" ∷ codes "0" ∷ codes "0" ∷ codes "0" ∷ codes "0" ∷ codes "0" ∷ []) ≡ None
+seven_words = refl
+
+nine_words : question_of (codes "sight" ∷ codes "room.toml" ∷ codes "0" ∷ codes "0" ∷ codes "0" ∷ codes "0" ∷ codes "0" ∷ codes "0" ∷ codes "0" ∷ []) ≡ None
+nine_words = refl
+
+-- ---- texts
+
+many_patches : line (codes "refused scene " ++ scene_fault_text (scene_fault.TooManyPatches 15000)) ≡ codes "refused scene 2 TooManyPatches 15000\n"
+unfolding digits
+many_patches = refl
+
+bright_lamps : line (codes "refused scene " ++ scene_fault_text scene_fault.TotalIntensity) ≡ codes "refused scene 1 TotalIntensity\n"
+bright_lamps = refl
+
+covered_task : line (codes "refused scene " ++ scene_fault_text scene_fault.NoTaskPoint) ≡ codes "refused scene 3 NoTaskPoint\n"
+covered_task = refl
+
+-- as the record `HasHeavyRow` spells it
+heavy_row : line (codes "refused rows 1 RowSum " ++ decimal 0 ++ codes " " ++ thousandths 1140) ≡ codes "refused rows 1 RowSum 0 1.140\n"
+unfolding digits
+heavy_row = refl
+
+missed_code : status_code status.Missed ≡ 10
+missed_code = refl
+
+memory_code : status_code status.Memory ≡ 5
+memory_code = refl
+
+-- ---- answers
+
+-- a shelf without files: one absence was counted, or one fault
+abbrev shelf_after : ℕ → ℕ → Shelf
+shelf_after absences faults = record { files = Some []; absences_before = 0; absences_now = absences; faults_before = 0; faults_now = faults; taken = 0 }
+
+usage_of_no_words : IsAnswer [] (shelf_after 0 0) status.Usage usage_line
+usage_of_no_words = record { none = refl; text_is = refl }
+
+absent_room : IsAnswer report_words (shelf_after 1 0) status.Refused (codes "refused room.toml Absent\n")
+absent_room = record { asked = Report; command = refl; answer = inl (record { text_is = refl; rose = lit≤ tt; told = refl; taken = λ e. cc }) }
+
+read_fault_of_a_room : IsAnswer report_words (shelf_after 0 1) status.ReadFault (codes "read fault room.toml\n")
+read_fault_of_a_room = record { asked = Report; command = refl; answer = record { text_is = refl; rose = lit≤ tt; taken = λ e. cc } }
