@@ -1,4 +1,5 @@
 pub mod Cross
+pub mod Hundredths
 pub mod Near
 pub mod Order
 pub mod Quotient
@@ -6,5 +7,6 @@ pub mod Ratios
 pub mod RootLaws
 pub mod Rounding
 pub mod SearchLaws
+pub mod Shares
 pub mod SpanSteps
 pub mod Sums

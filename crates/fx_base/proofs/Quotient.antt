@@ -23,7 +23,7 @@ quotient_near u a b a' b' e p most under near_a near_b half =
     (le_trans_f one (le_trans_f two (le_trans_f three (add_mul_right_f (a' /ᶠ b') (whole 4 *ᶠ e) b'))))
 
 -- at most 1 and at most the quotient, each with 4 e more
-lesser_near : (u q c : Fraction) → u ≤ᶠ whole 1 → u ≤ᶠ (q +ᶠ c) → u ≤ᶠ (lesser (whole 1) q +ᶠ c)
+pub lesser_near : (u q c : Fraction) → u ≤ᶠ whole 1 → u ≤ᶠ (q +ᶠ c) → u ≤ᶠ (lesser (whole 1) q +ᶠ c)
 lesser_near u q c one near =
     sub_back_f u c (le_lesser (whole 1) q (sub_le_f u c (le_trans_f one (le_add_f (whole 1) c))) (sub_le_f u c near))
 

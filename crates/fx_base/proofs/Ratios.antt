@@ -1,5 +1,5 @@
 -- Quotients, the lesser and the greater of two fractions, and fractions of whole numbers.
-use Rattle.std.proofs.Common.{ℕ, zero, suc, ◌+◌, ◌*◌, ◌<◌, ◌≤◌, ◌≡◌, Bool, true, false, arith, refl, if◌then◌else◌}
+use Rattle.std.proofs.Common.{ℕ, zero, suc, ◌+◌, ◌*◌, ◌<◌, ◌≤◌, ◌≡◌, Bool, true, false, arith, refl, subst, if◌then◌else◌}
 use Rattle.std.proofs.Math.Nat.{mul-pos, mul-le-mul}
 use Rattle.fx_base.specs.Fraction.{Fraction, ◌≤ᶠ◌, at_most, ratio, whole, lesser, greater, ◌+ᶠ◌, ◌*ᶠ◌, ◌/ᶠ◌}
 use Rattle.fx_base.proofs.Order.{le_refl_f, le_trans_f, le_of_lt_f, at_most_le, at_most_false, mul_cancel_f, mul_le_f}
@@ -83,6 +83,27 @@ le_over_back a b p h = le_trans_f (mul_le_f h (le_refl_f b)) (over_mul_le a b p)
 
 pub over_below_back : (a b : Fraction) {q : Fraction} → 0 < b.num → (a /ᶠ b) ≤ᶠ q → a ≤ᶠ (q *ᶠ b)
 over_below_back a b p h = le_trans_f (le_over_mul a b p) (mul_le_f h (le_refl_f b))
+
+-- ---- a / b, where b may be 0
+
+pub none_by_nothing : (n : ℕ) (c : Fraction) → ratio n 0 ≤ᶠ c
+unfolding ratio
+none_by_nothing n c = record { cross = omega arith }
+
+pub by_nothing : (a b c : Fraction) → b.num ≡ 0 → (a /ᶠ b) ≤ᶠ c
+unfolding ◌/ᶠ◌
+by_nothing a b c e =
+    let f : 0 ≡ a.den * b.num = rw e (omega arith) in
+    let P : ℕ → Type 0 = λ d. ratio (a.num * b.den) d ≤ᶠ c in
+    subst P f (none_by_nothing (a.num * b.den) c)
+
+over_at : (a b c d : Fraction) (n : ℕ) → d.num ≡ n → a ≤ᶠ c → d ≤ᶠ b → (d.num ≡ 0 → b.num ≡ 0) → (a /ᶠ b) ≤ᶠ (c /ᶠ d)
+over_at a b c d zero e g h z = by_nothing a b (c /ᶠ d) (z e)
+over_at a b c d (suc n) e g h z = over_le (omega (arith, e)) g h
+
+-- a quotient grows so also where the greater divisor is 0 together with the lesser one
+pub over_le_any : (a b c d : Fraction) → a ≤ᶠ c → d ≤ᶠ b → (d.num ≡ 0 → b.num ≡ 0) → (a /ᶠ b) ≤ᶠ (c /ᶠ d)
+over_le_any a b c d g h z = over_at a b c d d.num refl g h z
 
 -- ---- the lesser and the greater
 

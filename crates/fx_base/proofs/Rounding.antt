@@ -1,11 +1,21 @@
 -- Quotients rounded down and up.
 use Rattle.std.proofs.Common.{ℕ, ◌+◌, ◌*◌, ◌/◌, ◌%◌, ◌<◌, ◌≤◌, ◌≡◌, min, arith, ap, sym, ◌∙◌, ℤ, pos, negsuc, ◌≤ℤ◌}
-use Rattle.std.proofs.Math.Nat.{div-le_of_le-mul, mul-le-mul_left, mul-add-div_right, mul-add-mod_self_right}
+use Rattle.std.proofs.Math.Nat.{div-le_of_le-mul, div-mul-le_self, mul-le-mul_left, mul-add-div_right, mul-add-mod_self_right}
 use Rattle.std.proofs.lemmas.Nat.{div-add-mod'}
 use Rattle.std.proofs.lemmas.Grind.{div_ceil_times}
 use Rattle.std.proofs.lemmas.Int.{ints}
 use Rattle.std.specs.Int.{div_ceil}
 use Rattle.fx_base.specs.Units.{natural}
+
+-- n / d down and up, in whole numbers
+pub floor_below : (n d : ℕ) → n / d * d ≤ n
+floor_below n d = div-mul-le_self n d
+
+pub ceil_above : (n d : ℕ) → 0 < d → n ≤ div_ceil n d * d
+ceil_above n d p = (div_ceil_times n d p).0
+
+pub ceil_below : (n d : ℕ) → 0 < d → div_ceil n d * d < n + d
+ceil_below n d p = (div_ceil_times n d p).1
 
 at_most-times : (a b x y q : ℕ) → a ≤ x → y ≤ b → x ≤ q * y → a ≤ b * q
 at_most-times a b x y q h g k = omega (arith, mul-le-mul_left q g)
@@ -33,6 +43,10 @@ pub natural-mono : (a b : ℤ) → pos 0 ≤ℤ a → a ≤ℤ b → natural a �
 natural-mono (pos a) (pos b) p h = omega (arith, ints)
 natural-mono (pos a) (negsuc b) p h = absurd (omega (arith, ints))
 natural-mono (negsuc a) b p h = absurd (omega (arith, ints))
+
+pub natural_most : (a : ℤ) (n : ℕ) → a ≤ℤ pos n → natural a ≤ n
+natural_most (pos a) n h = omega (arith, ints)
+natural_most (negsuc a) n h = omega arith
 
 pub ruleset quotients_rule = (quotients-in_order)
 

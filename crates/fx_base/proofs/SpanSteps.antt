@@ -1,88 +1,111 @@
 -- Rounded ends hold the exact results.
-use Rattle.std.proofs.Common.{ℕ, ◌+◌, ◌*◌, ◌/◌, ◌^◌, ◌<◌, ◌≤◌, ◌≡◌, arith, refl, ℤ, pos, negsuc, ◌≤ℤ◌, ◌+ℤ◌}
-use Rattle.std.proofs.Math.Nat.{div-mul-le_self, mul-le-mul_left, zero-lt-suc}
-use Rattle.std.proofs.lemmas.Grind.{div_ceil_times}
+use Rattle.std.proofs.Common.{ℕ, zero, suc, neg_ℤ, ◌+◌, ◌*◌, ◌/◌, ◌^◌, ◌<◌, ◌≤◌, ◌≡◌, arith, refl, ℤ, pos, negsuc, ◌+ℤ◌}
+use Rattle.std.proofs.Math.Nat.{mul-le-mul_left, zero-lt-suc}
 use Rattle.std.proofs.lemmas.Int.{ints}
 use Rattle.std.specs.Int.{div_ceil}
-use Rattle.fx_base.specs.Fraction.{Fraction, ◌≤ᶠ◌, ◌*ᶠ◌, ◌/ᶠ◌, ratio, whole}
+use Rattle.fx_base.specs.Fraction.{Fraction, ◌≤ᶠ◌, ◌+ᶠ◌, ◌*ᶠ◌, ◌/ᶠ◌, ratio, whole}
 use Rattle.fx_base.specs.Units.{natural, ticks}
 use Rattle.fx_base.specs.SpanLaws.{SumHolds, ProductHolds, ScaledHolds, QuotientHolds, FractionHolds, RootHolds}
-use Rattle.fx_base.proofs.Order.{le_refl_f, le_trans_f, add_le_f, mul_le_f}
+use Rattle.fx_base.proofs.Order.{le_refl_f, le_trans_f, add_le_f, add_swap_f, add_pairs_f, add_cancel_f, mul_le_f}
 use Rattle.fx_base.proofs.Ratios.{ratio_num, ratio_den, ratio_le, le_ratio, over_num, over_den, over_le, positive_above}
-use Rattle.fx_base.proofs.Sums.{ticks_split, ticks_join}
+use Rattle.fx_base.proofs.Rounding.{floor_below, ceil_above}
+use Rattle.fx_base.proofs.Sums.{ticks_le, ticks_split, ticks_join, ticks_positive, ticks_times_low}
 use Rattle.fx_base.proofs.SearchLaws.{square_le}
 use Rattle.fx_base.proofs.RootLaws.{root_above_ticks, root_below_ticks}
 
 -- ---- quotients rounded to a tick
 
--- n / d down and up, in whole numbers
-down : (n d : ℕ) → n / d * d ≤ n
-down n d = div-mul-le_self n d
-
-up : (n d : ℕ) → 0 < d → n ≤ div_ceil n d * d
-up n d p = (div_ceil_times n d p).0
-
 -- n 2^36 / d rounded to a tick, against n / d
 pub ticks_down : (n d : ℕ) → 0 < d → ticks (n * 68719476736 / d) ≤ᶠ ratio n d
 unfolding ticks
-ticks_down n d p = le_ratio n d (ticks (n * 68719476736 / d)) p (down (n * 68719476736) d)
+ticks_down n d p = le_ratio n d (ticks (n * 68719476736 / d)) p (floor_below (n * 68719476736) d)
 
 pub ticks_up : (n d : ℕ) → 0 < d → ratio n d ≤ᶠ ticks (div_ceil (n * 68719476736) d)
 unfolding ticks
-ticks_up n d p = ratio_le n d (ticks (div_ceil (n * 68719476736) d)) p (up (n * 68719476736) d p)
+ticks_up n d p = ratio_le n d (ticks (div_ceil (n * 68719476736) d)) p (ceil_above (n * 68719476736) d p)
 
--- a product of ticks
-pub product_down : (a b : ℕ) → ticks (a * b / 68719476736) ≤ᶠ (ticks a *ᶠ ticks b)
-unfolding ticks ◌*ᶠ◌
-product_down a b = record { cross = let g = down (a * b) 68719476736 in omega arith }
-
+-- a product of ticks, rounded up; `ticks_times_low` of `Sums` has it rounded down
 pub product_up : (a b : ℕ) → (ticks a *ᶠ ticks b) ≤ᶠ ticks (div_ceil (a * b) 68719476736)
 unfolding ticks ◌*ᶠ◌
-product_up a b = record { cross = let g = up (a * b) 68719476736 (zero-lt-suc 68719476735) in omega arith }
+product_up a b = record { cross = let g = ceil_above (a * b) 68719476736 (zero-lt-suc 68719476735) in omega arith }
 
 -- ticks times num by den
 
 pub scaled_down_f : (a n d : ℕ) → 0 < d → ticks (a * n / d) ≤ᶠ (ticks a *ᶠ ratio n d)
 unfolding ticks ◌*ᶠ◌
 scaled_down_f a n d p = record {
-  cross = rw (ratio_num n d p, ratio_den n d p) (let g = down (a * n) d in omega (arith, mul-le-mul_left 68719476736 g));
+  cross = rw (ratio_num n d p, ratio_den n d p) (let g = floor_below (a * n) d in omega (arith, mul-le-mul_left 68719476736 g));
 }
 
 pub scaled_up_f : (a n d : ℕ) → 0 < d → (ticks a *ᶠ ratio n d) ≤ᶠ ticks (div_ceil (a * n) d)
 unfolding ticks ◌*ᶠ◌
 scaled_up_f a n d p = record {
-  cross = rw (ratio_num n d p, ratio_den n d p) (let g = up (a * n) d p in omega (arith, mul-le-mul_left 68719476736 g));
+  cross = rw (ratio_num n d p, ratio_den n d p) (let g = ceil_above (a * n) d p in omega (arith, mul-le-mul_left 68719476736 g));
 }
 
 -- ticks by ticks
 pub over_down : (a b : ℕ) → 0 < b → ticks (a * 68719476736 / b) ≤ᶠ (ticks a /ᶠ ticks b)
 unfolding ticks
 over_down a b p = record {
-  cross = rw (over_num (ticks a) (ticks b) p, over_den (ticks a) (ticks b) p) (let g = down (a * 68719476736) b in omega (arith, mul-le-mul_left 68719476736 g));
+  cross = rw (over_num (ticks a) (ticks b) p, over_den (ticks a) (ticks b) p) (let g = floor_below (a * 68719476736) b in omega (arith, mul-le-mul_left 68719476736 g));
 }
 
 pub over_up : (a b : ℕ) → 0 < b → (ticks a /ᶠ ticks b) ≤ᶠ ticks (div_ceil (a * 68719476736) b)
 unfolding ticks
 over_up a b p = record {
-  cross = rw (over_num (ticks a) (ticks b) p, over_den (ticks a) (ticks b) p) (let g = up (a * 68719476736) b p in omega (arith, mul-le-mul_left 68719476736 g));
+  cross = rw (over_num (ticks a) (ticks b) p, over_den (ticks a) (ticks b) p) (let g = ceil_above (a * 68719476736) b p in omega (arith, mul-le-mul_left 68719476736 g));
 }
 
 -- ---- spans
 
-sum_low : (a b : ℤ) → pos 0 ≤ℤ a → pos 0 ≤ℤ b → natural (a +ℤ b) ≡ natural a + natural b
-sum_low (pos a) (pos b) p q = refl
-sum_low (pos a) (negsuc b) p q = absurd (omega (arith, ints))
-sum_low (negsuc a) b p q = absurd (omega (arith, ints))
+-- a whole number is what it is above 0 less what it is below
+parts : (z : ℤ) → z +ℤ pos (natural (neg_ℤ z)) ≡ pos (natural z)
+parts (pos zero) = refl
+parts (pos (suc n)) = omega (arith, ints)
+parts (negsuc n) = omega (arith, ints)
+
+sum_parts : (a b : ℤ) → natural (a +ℤ b) + (natural (neg_ℤ a) + natural (neg_ℤ b)) ≡ (natural a + natural b) + natural (neg_ℤ (a +ℤ b))
+sum_parts a b = omega (arith, ints, parts a, parts b, parts (a +ℤ b))
+
+-- m + w ≤ z + n, where c + n is m + g
+shift_below : (m n c g : ℕ) (w z : Fraction) → c + n ≡ m + g → (ticks m +ᶠ w) ≤ᶠ (z +ᶠ ticks n) → (ticks c +ᶠ w) ≤ᶠ (z +ᶠ ticks g)
+shift_below m n c g w z e h =
+    let same : (ticks c +ᶠ ticks n) ≤ᶠ (ticks m +ᶠ ticks g) = le_trans_f (ticks_join c n) (le_trans_f (ticks_le (c + n) (m + g) (omega (arith, e))) (ticks_split m g)) in
+    add_cancel_f (ticks c +ᶠ w) (z +ᶠ ticks g) (ticks n)
+    (le_trans_f (add_swap_f (ticks c) w (ticks n)) (le_trans_f (add_le_f same (le_refl_f w))
+    (le_trans_f (add_swap_f (ticks m) (ticks g) w) (le_trans_f (add_le_f h (le_refl_f (ticks g))) (add_swap_f z (ticks n) (ticks g))))))
+
+shift_above : (m n c g : ℕ) (w z : Fraction) → c + n ≡ m + g → (z +ᶠ ticks n) ≤ᶠ (ticks m +ᶠ w) → (z +ᶠ ticks g) ≤ᶠ (ticks c +ᶠ w)
+shift_above m n c g w z e h =
+    let same : (ticks m +ᶠ ticks g) ≤ᶠ (ticks c +ᶠ ticks n) = le_trans_f (ticks_join m g) (le_trans_f (ticks_le (m + g) (c + n) (omega (arith, e))) (ticks_split c n)) in
+    add_cancel_f (z +ᶠ ticks g) (ticks c +ᶠ w) (ticks n)
+    (le_trans_f (add_swap_f z (ticks g) (ticks n)) (le_trans_f (add_le_f h (le_refl_f (ticks g)))
+    (le_trans_f (add_swap_f (ticks m) w (ticks g)) (le_trans_f (add_le_f same (le_refl_f w)) (add_swap_f (ticks c) (ticks n) w)))))
+
+-- a + u ≤ x + e and b + v ≤ y + f, where c + (e + f) is (a + b) + g
+sum_below : (a b c e f g : ℕ) (u v x y : Fraction) → c + (e + f) ≡ (a + b) + g → (ticks a +ᶠ u) ≤ᶠ (x +ᶠ ticks e) → (ticks b +ᶠ v) ≤ᶠ (y +ᶠ ticks f)
+    → (ticks c +ᶠ (u +ᶠ v)) ≤ᶠ ((x +ᶠ y) +ᶠ ticks g)
+sum_below a b c e f g u v x y h i j =
+    shift_below (a + b) (e + f) c g (u +ᶠ v) (x +ᶠ y) h
+    (le_trans_f (add_le_f (ticks_split a b) (le_refl_f (u +ᶠ v))) (le_trans_f (add_pairs_f (ticks a) (ticks b) u v)
+    (le_trans_f (add_le_f i j) (le_trans_f (add_pairs_f x (ticks e) y (ticks f)) (add_le_f (le_refl_f (x +ᶠ y)) (ticks_join e f))))))
+
+sum_above : (a b c e f g : ℕ) (u v x y : Fraction) → c + (e + f) ≡ (a + b) + g → (x +ᶠ ticks e) ≤ᶠ (ticks a +ᶠ u) → (y +ᶠ ticks f) ≤ᶠ (ticks b +ᶠ v)
+    → ((x +ᶠ y) +ᶠ ticks g) ≤ᶠ (ticks c +ᶠ (u +ᶠ v))
+sum_above a b c e f g u v x y h i j =
+    shift_above (a + b) (e + f) c g (u +ᶠ v) (x +ᶠ y) h
+    (le_trans_f (add_le_f (le_refl_f (x +ᶠ y)) (ticks_split e f)) (le_trans_f (add_pairs_f x y (ticks e) (ticks f))
+    (le_trans_f (add_le_f i j) (le_trans_f (add_pairs_f (ticks a) u (ticks b) v) (add_le_f (ticks_join a b) (le_refl_f (u +ᶠ v)))))))
 
 pub sum_holds : SumHolds
-sum_holds a b x y p q r s (g, h) (i, j) = (
-  rw (sum_low a.lo b.lo p r) (le_trans_f (ticks_split (natural a.lo) (natural b.lo)) (add_le_f g i)),
-  rw (sum_low a.hi b.hi q s) (le_trans_f (add_le_f h j) (ticks_join (natural a.hi) (natural b.hi))),
+sum_holds a b x y (g, h) (i, j) = (
+  record { cross = sum_below (natural a.lo) (natural b.lo) (natural (a.lo +ℤ b.lo)) (natural (neg_ℤ a.lo)) (natural (neg_ℤ b.lo)) (natural (neg_ℤ (a.lo +ℤ b.lo))) x.taken y.taken x.start y.start (sum_parts a.lo b.lo) g.cross i.cross },
+  record { cross = sum_above (natural a.hi) (natural b.hi) (natural (a.hi +ℤ b.hi)) (natural (neg_ℤ a.hi)) (natural (neg_ℤ b.hi)) (natural (neg_ℤ (a.hi +ℤ b.hi))) x.taken y.taken x.start y.start (sum_parts a.hi b.hi) h.cross j.cross },
 )
 
 pub product_holds : ProductHolds
 product_holds a b x y (g, h) (i, j) =
-    (le_trans_f (product_down (natural a.lo) (natural b.lo)) (mul_le_f g i), le_trans_f (mul_le_f h j) (product_up (natural a.hi) (natural b.hi)))
+    (le_trans_f (ticks_times_low (natural a.lo) (natural b.lo)) (mul_le_f g i), le_trans_f (mul_le_f h j) (product_up (natural a.hi) (natural b.hi)))
 
 pub scaled_holds : ScaledHolds
 scaled_holds a x num den p (g, h) = (
@@ -92,10 +115,6 @@ scaled_holds a x num den p (g, h) = (
 
 pub fraction_holds : FractionHolds
 fraction_holds num den p = (ticks_down num den p, ticks_up num den p)
-
-ticks_positive : (t : ℕ) → 0 < t → 0 < (ticks t).num
-unfolding ticks
-ticks_positive t p = p
 
 positive_ticks : (t : ℕ) → 0 < (ticks t).num → 0 < t
 unfolding ticks

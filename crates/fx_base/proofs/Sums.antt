@@ -1,7 +1,7 @@
 -- Sums of fractions, and ticks.
 use Rattle.std.proofs.Common.{ℕ, zero, suc, ◌+◌, ◌-◌, ◌*◌, ◌/◌, ◌<◌, ◌≤◌, ◌≡◌, inl, inr, arith}
 use Rattle.std.proofs.lemmas.Bool.{cases_lt}
-use Rattle.fx_base.specs.Fraction.{Fraction, ◌≤ᶠ◌, whole, sum_to, ◌+ᶠ◌, ◌-ᶠ◌, ◌*ᶠ◌}
+use Rattle.fx_base.specs.Fraction.{Fraction, ◌≤ᶠ◌, ◌<ᶠ◌, whole, sum_to, ◌+ᶠ◌, ◌-ᶠ◌, ◌*ᶠ◌}
 use Rattle.fx_base.specs.Units.{ticks}
 use Rattle.fx_base.proofs.Order.{le_refl_f, le_trans_f, add_le_f, add_zero_f, le_add_f, le_add_left_f, le_one_mul_f, add_pairs_f, zero_le_f, mul_le_f, mul_zero_f, mul_add_f, add_mul_f, add_mul_right_f}
 use Rattle.fx_base.proofs.Ratios.{whole_le, whole_join}
@@ -68,6 +68,18 @@ ticks_le s t h = record { cross = omega arith }
 pub ticks_back : (s t : ℕ) → ticks s ≤ᶠ ticks t → s ≤ t
 unfolding ticks
 ticks_back s t h = let g = h.cross in omega arith
+
+pub ticks_positive : (t : ℕ) → 0 < t → 0 < (ticks t).num
+unfolding ticks
+ticks_positive t p = p
+
+pub no_ticks : (ticks 0 ≤ᶠ whole 0) × (whole 0 ≤ᶠ ticks 0)
+unfolding ticks whole
+no_ticks = (record { cross = omega arith }, record { cross = omega arith })
+
+pub some_ticks : (t : ℕ) → 0 < t → whole 0 <ᶠ ticks t
+unfolding whole ticks
+some_ticks t p = record { cross = omega arith }
 
 pub ticks_split : (s t : ℕ) → ticks (s + t) ≤ᶠ (ticks s +ᶠ ticks t)
 unfolding ticks ◌+ᶠ◌

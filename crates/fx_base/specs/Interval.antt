@@ -1,4 +1,4 @@
--- Intervals of fractions: a lower and an upper end.
+-- Intervals of fractions: a lower and an upper end. The type doesn't force their order; `InOrder` says it where it is wanted.
 use Rattle.std.specs.Prelude.{ℕ, ◌*◌, ◌⊎◌}
 use Rattle.fx_base.specs.Fraction.{Fraction, ◌≤ᶠ◌, ◌+ᶠ◌, ◌-ᶠ◌, whole, sum_to}
 

@@ -4,7 +4,7 @@ use Rattle.std.proofs.Common.{inl, lit≤}
 use Rattle.fx_base.specs.Fraction.{◌≈ᶠ◌, ◌+ᶠ◌, ◌-ᶠ◌, at_most, ratio, whole, sum_to}
 use Rattle.fx_base.specs.Interval.{Interval, Contains, LiesIn, Meets, MeetsOnCircle, outward, sum_of}
 use Rattle.fx_base.specs.Search.{greatest, least}
-use Rattle.fx_base.specs.Units.{of_span, ticks}
+use Rattle.fx_base.specs.Units.{no_weight, of_span, of_weight, ticks}
 
 abbrev between : ℕ → ℕ → Interval
 between low high = record { lo = whole low; hi = whole high }
@@ -60,3 +60,11 @@ greatest_square = refl
 least_square : least (λ k. nat_le 50 (k * k)) 10 3 ≡ 8
 unfolding least
 least_square = refl
+
+-- the weight of a third of the light
+weight_of_a_third : Contains (of_weight (record { lo = 22906492245; hi = 22906492246 })) (ratio 1 3)
+unfolding ratio ticks
+weight_of_a_third = (record { cross = lit≤ tt }, record { cross = lit≤ tt })
+
+nothing_seen : of_weight no_weight ≡ record { lo = ticks 0; hi = ticks 0 }
+nothing_seen = refl

@@ -1,3 +1,6 @@
+pub mod Bound
+pub mod Difference
+mod DifferenceTests
 pub mod Ends
 pub mod Fraction
 mod FractionTests
@@ -7,6 +10,8 @@ pub mod Laws
 pub mod Nesting
 pub mod Root
 pub mod RootTests
+pub mod Rounded
+mod RoundedTests
 pub mod Search
 pub mod SpanLaws
 pub mod Units

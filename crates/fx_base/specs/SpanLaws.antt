@@ -1,19 +1,19 @@
 -- What the calls of a span give holds every result of numbers that the spans hold: the ends here are those of the calls' contracts.
-use Rattle.std.specs.Prelude.{ℕ, ◌*◌, ◌/◌, ◌^◌, ◌<◌, ◌≤◌, ◌+ℤ◌, ◌≤ℤ◌, pos}
+use Rattle.std.specs.Prelude.{ℕ, ◌*◌, ◌/◌, ◌^◌, ◌<◌, ◌≤◌, ◌+ℤ◌, pos}
 use Rattle.std.specs.Int.{div_ceil}
-use Rattle.fx_base.specs.Fraction.{Fraction, ◌≤ᶠ◌, ◌+ᶠ◌, ◌*ᶠ◌, ◌/ᶠ◌, ratio, whole}
+use Rattle.fx_base.specs.Fraction.{Fraction, ◌≤ᶠ◌, ◌*ᶠ◌, ◌/ᶠ◌, ratio, whole}
 use Rattle.fx_base.specs.Interval.{Contains, Meets}
 use Rattle.fx_base.specs.Ends.{Ends}
+use Rattle.fx_base.specs.Difference.{Difference, ◌+ᵈ◌, spans}
 use Rattle.fx_base.specs.Units.{natural, of_span}
 use Rattle.fx_base.specs.Root.{root}
 
 abbrev pub holds : Ends → Fraction → Type 0
 holds s x = Contains (of_span s) x
 
--- of ends that aren't negative
+-- of any ends, also of negative ones
 abbrev pub SumHolds : Type 0
-SumHolds = (a b : Ends) (x y : Fraction) → pos 0 ≤ℤ a.lo → pos 0 ≤ℤ a.hi → pos 0 ≤ℤ b.lo → pos 0 ≤ℤ b.hi → holds a x → holds b y
-    → holds (record { lo = a.lo +ℤ b.lo; hi = a.hi +ℤ b.hi }) (x +ᶠ y)
+SumHolds = (a b : Ends) (x y : Difference) → spans a x → spans b y → spans (record { lo = a.lo +ℤ b.lo; hi = a.hi +ℤ b.hi }) (x +ᵈ y)
 
 abbrev pub ProductHolds : Type 0
 ProductHolds = (a b : Ends) (x y : Fraction) → holds a x → holds b y

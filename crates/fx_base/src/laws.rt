@@ -37,7 +37,7 @@ pub fn quotient_is_steady()
     ensures { QuotientIsSteady }
 {}
 
-/// The sum of two spans holds the sums of what they hold.
+/// The sum of two spans holds the sums of what they hold, also where an end or a member is below 0.
 pub fn sum_holds()
     ensures { SumHolds }
 {}

@@ -6,15 +6,17 @@ mod cents;
 pub mod laws;
 mod memory;
 mod micro;
+mod share;
 mod span;
 #[cfg(test)]
 mod tests;
 mod tick;
 mod weight;
 
-pub use cents::{ceil_cent, floor_cent};
+pub use cents::{ceil_cent, ceil_thousandth, floor_cent};
 pub use memory::Memory;
-pub use micro::{Bracket, Micro};
+pub use micro::{Bracket, MICROS_IN_DEGREE, MICROS_IN_TURN, Micro};
+pub use share::{end_ticks, share_above, share_below};
 pub use span::Span;
-pub use tick::{Tick, magnitude, tick_of};
+pub use tick::{TICKS_IN_ONE, Tick, magnitude, tick_of};
 pub use weight::Weight;

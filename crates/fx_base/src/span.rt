@@ -1,12 +1,11 @@
+//! Spans: two ticks that hold an exact value between them.
 ghost use Rattle.std.specs.Prelude.{◌≡◌, ℕ, ◌+◌, ◌*◌, ◌/◌, ◌^◌, ◌<◌, ◌≤◌, ◌≤ℤ◌, ◌+ℤ◌, pos};
 ghost use Rattle.std.specs.Int.{div_ceil};
 ghost use Rattle.fx_base.specs.Units.{natural};
 ghost use Rattle.fx_base.specs.Ends.{IsWithin, IsRootBelow};
 
-use crate::tick::{Tick, magnitude, tick_of};
+use crate::tick::{TICKS_IN_ONE, Tick, magnitude, tick_of};
 use std::marker::Model;
-
-const TICKS_IN_ONE: u128 = 68_719_476_736;
 
 /// A lower and an upper end in ticks, the lower one at most the upper one. A span stands for an exact value that lies between
 /// its ends; each call rounds its lower end down and its upper end up, so that what it gives holds the exact result.
