@@ -1,11 +1,10 @@
 -- When given lists make a table: each rises, and every number is in its range.
 use Rattle.std.proofs.Common.{ℕ, zero, suc, ◌*◌, ◌<◌, ◌≤◌, ◌≡◌, ◌≤ℤ◌, pos, List, [], ◌∷◌, length, map, slice_index_or, arith, ◌^◌}
-use Rattle.std.proofs.Math.ListN.{length-map}
 use Rattle.std.proofs.lemmas.Int.{ints}
 use Rattle.fx_base.specs.Ends.{Ends}
-use Rattle.fx_base.specs.Units.{of_span}
+use Rattle.fx_base.specs.Units.{natural}
 use Rattle.fx_base.specs.declared.Micro.{Micro}
-use Rattle.photo_table.specs.Kept.{IsKept, IsIntensity, angle_of}
+use Rattle.photo_table.specs.Kept.{ArePlanes, AreGammas, AreIntensities, angle_of}
 use Rattle.photo_table.proofs.Lists.{count_is}
 
 -- the numbers rise, the first of them from above a
@@ -37,33 +36,31 @@ all_of_map : (P : ℕ → Type 0) (xs : List Micro) → Each (λ (m : Micro). P 
 all_of_map P [] h = tt
 all_of_map P (x ∷ xs) h = (h.0, all_of_map P xs h.1)
 
-pub kept_of : (p : Micro) (ps : List Micro) (g : Micro) (gs : List Micro) (vs : List Ends)
-    → RisesFrom (angle_of p) (map angle_of ps) → Each (λ (m : Micro). pos 0 ≤ℤ m.0) (p ∷ ps) → Each (λ (m : Micro). angle_of m < 360000000) (p ∷ ps)
-    → RisesFrom (angle_of g) (map angle_of gs) → Each (λ (m : Micro). pos 0 ≤ℤ m.0) (g ∷ gs) → Each (λ (m : Micro). angle_of m ≤ 180000000) (g ∷ gs)
-    → 0 < length gs → length vs ≡ length (p ∷ ps) * length (g ∷ gs) → Each IsIntensity vs → IsKept (p ∷ ps) (g ∷ gs) vs
-kept_of p ps g gs vs planes_rise planes_natural planes_below gammas_rise gammas_natural gammas_up_to two count values =
-    let below = λ (i : ℕ) (q : i < length (map angle_of (p ∷ ps))). all_at (λ (x : ℕ). x < 360000000) (map angle_of (p ∷ ps)) (all_of_map (λ (x : ℕ). x < 360000000) (p ∷ ps) planes_below) i 0 q in
-    record {
-      is_table = record {
-        some_plane = omega arith;
-        planes_rise = rises_pairs (angle_of p) (map angle_of ps) planes_rise;
-        first_plane = let f = below 0 (omega arith) in omega arith;
-        one_turn = λ i q. let f = below i q in omega arith;
-        two_gammas = let e = count_is gs in omega arith;
-        gammas_rise = rises_pairs (angle_of g) (map angle_of gs) gammas_rise;
-        gammas_up_to = λ j q. all_at (λ (x : ℕ). x ≤ 180000000) (map angle_of (g ∷ gs)) (all_of_map (λ (x : ℕ). x ≤ 180000000) (g ∷ gs) gammas_up_to) j 0 q;
-        all_values = rw (length-map vs of_span, count_is (p ∷ ps), count_is (g ∷ gs)) count;
-      };
-      planes_not_negative = λ i d q. all_at (λ (m : Micro). pos 0 ≤ℤ m.0) (p ∷ ps) planes_natural i d q;
-      planes_below = λ i q. below i (rw (count_is (p ∷ ps)) q);
-      gammas_not_negative = λ i d q. all_at (λ (m : Micro). pos 0 ≤ℤ m.0) (g ∷ gs) gammas_natural i d q;
-      intensities = λ i d q. all_at IsIntensity vs values i d q;
-    }
+-- one plane, and those after it
+pub planes_of : (p : Micro) (ps : List Micro) → RisesFrom (angle_of p) (map angle_of ps) → Each (λ (m : Micro). pos 0 ≤ℤ m.0) (p ∷ ps)
+    → Each (λ (m : Micro). angle_of m < 360000000) (p ∷ ps) → ArePlanes (p ∷ ps)
+planes_of p ps rise natural below = record {
+  some = omega arith;
+  not_negative = all_at (λ (m : Micro). pos 0 ≤ℤ m.0) (p ∷ ps) natural;
+  rise = λ i j k l. rises_pairs (angle_of p) (map angle_of ps) rise i j k (rw (count_is (p ∷ ps)) l);
+  below = λ i k. all_at (λ (x : ℕ). x < 360000000) (map angle_of (p ∷ ps)) (all_of_map (λ (x : ℕ). x < 360000000) (p ∷ ps) below) i 0 (rw (count_is (p ∷ ps)) k);
+}
+
+pub gammas_of : (g : Micro) (gs : List Micro) → RisesFrom (angle_of g) (map angle_of gs) → Each (λ (m : Micro). pos 0 ≤ℤ m.0) (g ∷ gs)
+    → Each (λ (m : Micro). angle_of m ≤ 180000000) (g ∷ gs) → 0 < length gs → AreGammas (g ∷ gs)
+gammas_of g gs rise natural up_to some = record {
+  two = omega arith;
+  not_negative = all_at (λ (m : Micro). pos 0 ≤ℤ m.0) (g ∷ gs) natural;
+  rise = λ i j k l. rises_pairs (angle_of g) (map angle_of gs) rise i j k (rw (count_is (g ∷ gs)) l);
+  up_to = λ i k. all_at (λ (x : ℕ). x ≤ 180000000) (map angle_of (g ∷ gs)) (all_of_map (λ (x : ℕ). x ≤ 180000000) (g ∷ gs) up_to) i 0 (rw (count_is (g ∷ gs)) k);
+}
+
+abbrev pub IsBright : Ends → Type 0
+IsBright e = (pos 0 ≤ℤ e.lo) × (natural e.hi ≤ 687194767360000000)
+
+pub intensities_of : (vs : List Ends) → Each IsBright vs → AreIntensities vs
+intensities_of vs h = record { not_negative = λ i d p. (all_at IsBright vs h i d p).0; high = λ i d p. (all_at IsBright vs h i d p).1 }
 
 -- a whole number of candela
-pub whole_intensity : (e : Ends) (n : ℕ) → e.lo ≡ pos (n * 2 ^ 36) → e.hi ≡ pos (n * 2 ^ 36) → n ≤ 10000000 → IsIntensity e
-whole_intensity e n g h p = record {
-  not_negative = rw g (omega (arith, ints));
-  in_order = rw (g, h) (omega (arith, ints));
-  high = rw h (omega arith);
-}
+pub whole_intensity : (e : Ends) (n : ℕ) → e.lo ≡ pos (n * 2 ^ 36) → e.hi ≡ pos (n * 2 ^ 36) → n ≤ 10000000 → IsBright e
+whole_intensity e n g h p = (rw g (omega (arith, ints)), rw h (omega arith))

@@ -13,3 +13,5 @@ pub mod Sweeps
 pub mod Greatest
 pub mod Bright
 pub mod FromLists
+pub mod Exactly
+pub mod Intensities

@@ -16,6 +16,31 @@ angle_of m = natural m.0
 abbrev pub table_of : List Micro → List Micro → List Ends → Table
 table_of planes gammas values = record { planes = map angle_of planes; gammas = map angle_of gammas; values = map of_span values }
 
+-- the planes of a table: at least one, and they rise from 0 to below 360 degrees
+pub record ArePlanes (planes : List Micro) : Type 0 where
+  pub some : 0 < length planes
+  pub not_negative : (i : ℕ) (d : Micro) → i < length planes → pos 0 ≤ℤ (slice_index_or planes i d).0
+  pub rise : (i j : ℕ) → i < j → j < length planes → slice_index_or (map angle_of planes) i 0 < slice_index_or (map angle_of planes) j 0
+  pub below : (i : ℕ) → i < length planes → slice_index_or (map angle_of planes) i 0 < 360000000
+
+-- its gammas: at least two, and they rise from 0 to 180 degrees
+pub record AreGammas (gammas : List Micro) : Type 0 where
+  pub two : 2 ≤ length gammas
+  pub not_negative : (i : ℕ) (d : Micro) → i < length gammas → pos 0 ≤ℤ (slice_index_or gammas i d).0
+  pub rise : (i j : ℕ) → i < j → j < length gammas → slice_index_or (map angle_of gammas) i 0 < slice_index_or (map angle_of gammas) j 0
+  pub up_to : (i : ℕ) → i < length gammas → slice_index_or (map angle_of gammas) i 0 ≤ 180000000
+
+-- its intensities: from 0 to 10,000,000 candela
+pub record AreIntensities (values : List Ends) : Type 0 where
+  pub not_negative : (i : ℕ) (d : Ends) → i < length values → pos 0 ≤ℤ (slice_index_or values i d).lo
+  pub high : (i : ℕ) (d : Ends) → i < length values → natural (slice_index_or values i d).hi ≤ 687194767360000000
+
+-- the lower end of each is at most the upper one
+pub record AreInOrder (values : List Ends) : Type 0 where
+  pub each : (i : ℕ) (d : Ends) → i < length values → (slice_index_or values i d).lo ≤ℤ (slice_index_or values i d).hi
+
+-- ---- what a grid keeps of them
+
 -- from 0 to 10,000,000 candela
 pub record IsIntensity (e : Ends) : Type 0 where
   pub not_negative : pos 0 ≤ℤ e.lo

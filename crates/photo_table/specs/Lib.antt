@@ -3,6 +3,7 @@ pub mod Axis
 pub mod Table
 pub mod Hull
 pub mod Laws
+pub mod Exact
 pub mod Kept
 pub mod Grid
 pub mod Tests

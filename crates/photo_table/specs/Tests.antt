@@ -3,13 +3,14 @@ use Rattle.std.specs.Prelude.{ℕ, ◌≡◌, Bool, true, ◌&&◌, refl, [], �
 use Rattle.std.specs.Fmt.{digits}
 use Rattle.fx_base.specs.Fraction.{Fraction, ◌+ᶠ◌, ◌*ᶠ◌, ratio, whole, at_most, lesser, greater}
 use Rattle.fx_base.specs.Interval.{Interval, exact}
-use Rattle.fx_base.specs.Units.{millionths}
+use Rattle.fx_base.specs.Units.{millionths, ticks}
 use Rattle.fx_base.specs.Search.{greatest}
 use Rattle.photo_table.specs.Angles.{turn_later}
 use Rattle.photo_table.specs.Axis.{behind, ahead, between, piece, along, extreme}
 use Rattle.photo_table.specs.Table.{Table, plane, value, end_at, bilinear}
 use Rattle.photo_table.specs.Hull.{gamma_extreme, plane_extreme, hull}
 use Rattle.photo_table.specs.Kept.{summary_line}
+use Rattle.photo_table.specs.Exact.{rounded}
 
 unfoldable pub computed : Unit {0}
 unfolding ◌+ᶠ◌ ◌*ᶠ◌ ratio whole lesser greater millionths greatest turn_later behind ahead between piece along extreme plane value end_at bilinear gamma_extreme plane_extreme hull
@@ -121,3 +122,13 @@ hull_over_the_first_gamma = refl
 rounded_outward_twice : summary_line four_planes 6876758036971 6876758036972 ≡ codes "planes 4 gammas 2 greatest 100.06 100.08"
 unfolding digits four_planes
 rounded_outward_twice = refl
+
+-- ---- 100.07 candela to ticks: 10007 * 2^36 / 100 is 6876758036971.52. A whole number of ticks stays what it is
+
+rounded_to_both_sides : rounded (exact (ratio 10007 100)) ≡ record { lo = ticks 6876758036971; hi = ticks 6876758036972 }
+unfolding computed ticks
+rounded_to_both_sides = refl
+
+whole_ticks_stay : rounded (exact (ratio 3 4)) ≡ record { lo = ticks 51539607552; hi = ticks 51539607552 }
+unfolding computed ticks
+whole_ticks_stay = refl

@@ -1,3 +1,4 @@
+//! The table of one intensity in all directions.
 ghost use Rattle.std.specs.Prelude.{◌≡◌, ◌≤◌, IfOk};
 ghost use Rattle.photo_table.specs.Kept.{even_table};
 ghost use Rattle.photo_table.specs.Grid.{table_in};

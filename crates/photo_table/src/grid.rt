@@ -1,3 +1,4 @@
+//! A table as its lists, and the hull of its intensities in whole millionths of a degree.
 ghost use Rattle.photo_table.specs.Kept.{IsKept};
 
 use crate::part::{DARK, Part, joined, part_of, rounded, weighed};

@@ -1,6 +1,7 @@
 //! What holds of the hull, each law as the contract of a function that does nothing.
 
 ghost use Rattle.photo_table.specs.Laws.{HullContains, HullGrows, HullsMeet, HullsNear};
+ghost use Rattle.photo_table.specs.Exact.{RoundsToNextTick, RoundedStands, RoundedIsNarrow};
 
 /// The hull contains the intensity in every direction of its two brackets.
 pub fn hull_contains()
@@ -20,4 +21,19 @@ pub fn hulls_meet()
 /// The hull over narrow brackets that meet others lies within a tick of the exact table's hull over those moved outward.
 pub fn hulls_near()
     ensures { HullsNear }
+{}
+
+/// An end that is rounded to a tick is the next one on its side: one tick nearer would be past the exact number, or on it.
+pub fn rounds_to_next_tick()
+    ensures { RoundsToNextTick }
+{}
+
+/// A table that is rounded to ticks stands for its exact one, so that the laws of hulls hold of the two.
+pub fn rounded_stands()
+    ensures { RoundedStands }
+{}
+
+/// No intensity of a rounded table is wider than a tick.
+pub fn rounded_is_narrow()
+    ensures { RoundedIsNarrow }
 {}

@@ -1,3 +1,4 @@
+//! Intensities between two ends, in whole ticks.
 ghost use Rattle.std.specs.Prelude.{◌≡◌, ◌+◌, ◌*◌, ◌/◌, ◌^◌, ◌<◌, ◌≤◌, min, max};
 ghost use Rattle.std.specs.Int.{div_ceil};
 ghost use Rattle.fx_base.specs.Units.{natural};

@@ -1,3 +1,4 @@
+//! Angles as whole numbers, and how many of them are at most a given one.
 ghost use Rattle.std.specs.Prelude.{◌≡◌, ℕ, ◌+◌, ◌-◌, ◌*◌, ◌/◌, ◌^◌, ◌<◌, ◌≤◌, ◌≤ℤ◌, pos, length, map, slice_index_or};
 ghost use Rattle.fx_base.specs.declared.Micro.{Micro};
 ghost use Rattle.fx_base.specs.Units.{natural};

@@ -1,3 +1,4 @@
+//! The line that sums up a table.
 ghost use Rattle.std.specs.Prelude.{IfOk, string_bytes};
 ghost use Rattle.photo_table.specs.Kept.{IsSummary};
 

@@ -1,3 +1,6 @@
+//! The table of intensities that other crates see.
+ghost use Rattle.photo_table.specs.Kept.{AreInOrder};
+
 use crate::even::even_grid;
 use crate::grid::Grid;
 use fx_base::{Bracket, Memory, Micro, Span, Tick, tick_of};
@@ -10,6 +13,15 @@ use std::marker::Model;
 #[derive(Debug, Drop)]
 pub struct PhotoTable {
     grid: Grid,
+}
+
+/// Each span's lower end is at most its upper one. The type of a span keeps that, and tells it span by span; nothing is computed.
+fn spans_are_in_order(values: &[Span])
+    ensures { AreInOrder values.now }
+{
+    for span in values {
+        let _ = span.lo();
+    }
 }
 
 impl Model for PhotoTable {
@@ -26,15 +38,20 @@ impl PhotoTable {
     ghost use Rattle.fx_base.specs.Fraction.{Fraction};
     ghost use Rattle.fx_base.specs.Interval.{Contains, LiesIn};
     ghost use Rattle.fx_base.specs.Units.{natural, ticks, of_span, of_bracket};
-    ghost use Rattle.photo_table.specs.Table.{IsTable, bilinear, lower, upper};
+    ghost use Rattle.photo_table.specs.Table.{bilinear, lower, upper};
+    ghost use Rattle.photo_table.specs.Exact.{IsIntensityTable};
     ghost use Rattle.photo_table.specs.Hull.{hull as hull_of};
-    ghost use Rattle.photo_table.specs.Kept.{IsKept, IsGreatest, Rounds, even_table, table_of};
+    ghost use Rattle.photo_table.specs.Kept.{ArePlanes, AreGammas, AreIntensities, IsGreatest, Rounds, even_table, table_of};
 
     /// The table of these planes and gammas, and of these values, plane by plane.
     pub fn new(planes: Vec<Micro>, gammas: Vec<Micro>, values: Vec<Span>) -> PhotoTable
-        requires { IsKept planes.items gammas.items values.items }
+        requires planes { ArePlanes planes.items }
+        requires gammas { AreGammas gammas.items }
+        requires values { AreIntensities values.items }
+        requires all { length values.items ≡ length planes.items * length gammas.items }
         ensures { result ≡ table_of planes.items gammas.items values.items }
     {
+        spans_are_in_order(&values);
         PhotoTable {
             grid: Grid {
                 planes,
@@ -57,6 +74,7 @@ impl PhotoTable {
 
     /// The hull of the intensities over a bracket of C, which may run over the end of a turn, and one of gamma: it contains the
     /// intensity in each of these directions, and each of its ends is at most a tick of 2^-36 cd outside of the exact one.
+    #[tactic(auto, using(crate::proofs::Intensities::kept_is))]
     pub fn hull(&self, c: Bracket, g: Bracket) -> Span
         requires c_not_negative { pos 0 ≤ℤ c.lo.0 }
         requires c_below { natural c.lo.0 < 360000000 }
@@ -71,16 +89,18 @@ impl PhotoTable {
         ensures not_negative { pos 0 ≤ℤ result.lo }
         ensures below_the_greatest { (m : ℕ) → IsGreatest upper self.now (ticks m) → natural result.hi ≤ m + 1 }
         ensures bright { natural result.hi ≤ 687194767360000001 }
-        ensures is_table { IsTable self.now }
+        ensures kept { IsIntensityTable self.now }
     {
         self.grid.hull(c, g)
     }
 
     /// The greatest upper end.
+    #[tactic(auto, using(crate::proofs::Intensities::kept_is))]
     pub fn greatest(&self) -> Tick
         ensures greatest { IsGreatest upper self.now (ticks (natural result.0)) }
         ensures not_negative { pos 0 ≤ℤ result.0 }
         ensures bright { natural result.0 ≤ 687194767360000000 }
+        ensures kept { IsIntensityTable self.now }
     {
         tick_of(self.grid.greatest_ends().hi)
     }
@@ -95,17 +115,19 @@ impl PhotoTable {
     }
 
     /// How many planes there are.
+    #[tactic(auto, using(crate::proofs::Intensities::kept_is))]
     pub fn planes(&self) -> usize
         ensures planes { result ≡ length self.now.planes }
-        ensures is_table { IsTable self.now }
+        ensures kept { IsIntensityTable self.now }
     {
         self.grid.planes.len()
     }
 
     /// How many gammas there are.
+    #[tactic(auto, using(crate::proofs::Intensities::kept_is))]
     pub fn gammas(&self) -> usize
         ensures gammas { result ≡ length self.now.gammas }
-        ensures is_table { IsTable self.now }
+        ensures kept { IsIntensityTable self.now }
     {
         self.grid.gammas.len()
     }

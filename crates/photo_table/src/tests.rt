@@ -1,3 +1,4 @@
+//! Hulls of small tables, worked out by hand.
 ghost use Rattle.std.specs.Prelude.{◌≡◌};
 
 use crate::{PhotoTable, summary_text};
