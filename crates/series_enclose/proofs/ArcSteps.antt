@@ -3,11 +3,11 @@ use Rattle.std.proofs.Common.{ℕ, ◌+◌, ◌*◌, ◌^◌, ◌<◌, ◌≤◌
 use Rattle.std.proofs.Math.Nat.{mul-le-mul, pow-suc, pow-zero, one-mul, lt_of_mul-lt-mul_left}
 use Rattle.fx_base.specs.Fraction.{Fraction, ◌≤ᶠ◌, ◌*ᶠ◌, whole, ratio}
 use Rattle.fx_base.specs.Interval.{Meets}
-use Rattle.fx_base.specs.Units.{ticks, millionths}
+use Rattle.fx_base.specs.Units.{ticks, millionths, ticks_between}
 use Rattle.fx_base.proofs.Order.{le_refl_f, le_trans_f, mul_le_f}
 use Rattle.fx_base.proofs.Near.{one_depth_meets}
 use Rattle.series_enclose.specs.Series.{upper_sum, lower_sum, power_over, factorial, exponential_term, sine_term, cosine_term, pi, radians, sine_of, cosine_of, sine, cosine}
-use Rattle.series_enclose.specs.Turns.{between, IsProduct, series_term, IsBetween, IsStart, IsSum}
+use Rattle.series_enclose.specs.Turns.{IsProduct, series_term, IsBetween, IsStart, IsSum}
 use Rattle.series_enclose.proofs.Alternating.{lower_rises, upper_falls, upper_sum_same}
 use Rattle.series_enclose.proofs.Terms.{sine_falls, cosine_falls}
 use Rattle.series_enclose.proofs.PiLaws.{pi_above, pi_below}
@@ -139,17 +139,17 @@ arc_ends angle lo hi h =
 
 sine_sum_meets : (angle lo hi : ℕ) → angle ≤ 45000000
     → IsSum 1 lo hi (radians (pi 4) (millionths angle)).lo → IsSum 1 lo hi (radians (pi 4) (millionths angle)).hi
-    → (n : ℕ) → Meets (between lo hi) (sine n (millionths angle))
+    → (n : ℕ) → Meets (ticks_between lo hi) (sine n (millionths angle))
 unfolding sine sine_of series_term sine_term
 sine_sum_meets angle lo hi h at_low at_high =
     let g = millionths angle in
     let within = within_45 angle h in
-    one_depth_meets (λ n. sine n g) (sine_nested g within) (between lo hi) 4 4
+    one_depth_meets (λ n. sine n g) (sine_nested g within) (ticks_between lo hi) 4 4
     (le_trans_f at_low.low (lower_rises (sine_term (radians (pi 4) g).lo) (sine_falls (radians (pi 4) g).lo (arc_low_one 4 g within)) 3))
     (le_trans_f (upper_falls (sine_term (radians (pi 4) g).hi) (sine_falls (radians (pi 4) g).hi (arc_high_one 4 g within)) 3) at_high.high)
 
 pub sine_meets : (angle al ah sl sh cl ch lo hi : ℕ) → angle ≤ 45000000 → IsArc angle al ah → IsProduct 1 al ah al ah sl sh → IsProduct 6 al ah sl sh cl ch
-    → ((x : Fraction) → IsStart 1 al ah cl ch sl sh x → IsSum 1 lo hi x) → (n : ℕ) → Meets (between lo hi) (sine n (millionths angle))
+    → ((x : Fraction) → IsStart 1 al ah cl ch sl sh x → IsSum 1 lo hi x) → (n : ℕ) → Meets (ticks_between lo hi) (sine n (millionths angle))
 sine_meets angle al ah sl sh cl ch lo hi h arc p q sum =
     let g = millionths angle in
     let within = within_45 angle h in
@@ -177,18 +177,18 @@ cosine_sum lo hi x h =
 
 cosine_sum_meets : (angle lo hi : ℕ) → angle ≤ 45000000
     → IsSum 0 lo hi (radians (pi 4) (millionths angle)).lo → IsSum 0 lo hi (radians (pi 4) (millionths angle)).hi
-    → (n : ℕ) → Meets (between lo hi) (cosine n (millionths angle))
+    → (n : ℕ) → Meets (ticks_between lo hi) (cosine n (millionths angle))
 unfolding cosine cosine_of
 cosine_sum_meets angle lo hi h at_low at_high =
     let g = millionths angle in
     let within = within_45 angle h in
-    one_depth_meets (λ n. cosine n g) (cosine_nested g within) (between lo hi) 4 4
+    one_depth_meets (λ n. cosine n g) (cosine_nested g within) (ticks_between lo hi) 4 4
     (le_trans_f ((cosine_sum lo hi (radians (pi 4) g).hi at_high).0) (lower_rises (cosine_term (radians (pi 4) g).hi) (cosine_falls (radians (pi 4) g).hi (arc_high_one 4 g within)) 3))
     (le_trans_f (upper_falls (cosine_term (radians (pi 4) g).lo) (cosine_falls (radians (pi 4) g).lo (arc_low_one 4 g within)) 3) ((cosine_sum lo hi (radians (pi 4) g).lo at_low).1))
 
 pub cosine_meets : (angle al ah sl sh cl ch lo hi : ℕ) → angle ≤ 45000000 → IsArc angle al ah → IsProduct 1 al ah al ah sl sh
     → IsProduct 2 68719476736 68719476736 sl sh cl ch
-    → ((x : Fraction) → IsStart 0 68719476736 68719476736 cl ch sl sh x → IsSum 0 lo hi x) → (n : ℕ) → Meets (between lo hi) (cosine n (millionths angle))
+    → ((x : Fraction) → IsStart 0 68719476736 68719476736 cl ch sl sh x → IsSum 0 lo hi x) → (n : ℕ) → Meets (ticks_between lo hi) (cosine n (millionths angle))
 cosine_meets angle al ah sl sh cl ch lo hi h arc p q sum =
     let g = millionths angle in
     let within = within_45 angle h in

@@ -2,15 +2,11 @@
 -- with o = 0.
 use Rattle.std.specs.Prelude.{ℕ, ◌+◌, ◌*◌, ◌<◌, ◌≤◌}
 use Rattle.fx_base.specs.Fraction.{Fraction, ◌≤ᶠ◌, ◌*ᶠ◌, whole}
-use Rattle.fx_base.specs.Interval.{Interval}
 use Rattle.fx_base.specs.Units.{ticks}
 use Rattle.series_enclose.specs.Series.{upper_sum, lower_sum, exponential_term}
 
 unfoldable pub series_term : ℕ → Fraction → ℕ → Fraction
 series_term o x k = exponential_term x (2 * k + o)
-
-abbrev pub between : ℕ → ℕ → Interval
-between lo hi = record { lo = ticks lo; hi = ticks hi }
 
 -- the product of t and s by d in ticks, rounded down and up, for t and s between their ends
 pub record IsProduct (d t_lo t_hi s_lo s_hi lo hi : ℕ) : Type 0 where

@@ -1,3 +1,4 @@
+//! Sines and cosines as spans.
 ghost use Rattle.std.specs.Prelude.{◌≤ℤ◌, pos};
 ghost use Rattle.fx_base.specs.Units.{natural};
 ghost use Rattle.series_enclose.specs.Enclosed.{IsSine, IsCosine};

@@ -1,15 +1,14 @@
+//! Sines and cosines between ends in ticks: the angle in radians, its square, and the first two terms of each series.
 ghost use Rattle.std.specs.Prelude.{ℕ, ◌+◌, ◌*◌, ◌^◌, ◌≤◌};
 ghost use Rattle.fx_base.specs.Interval.{Meets};
-ghost use Rattle.fx_base.specs.Units.{millionths};
+ghost use Rattle.fx_base.specs.Units.{millionths, ticks_between};
 ghost use Rattle.series_enclose.specs.Series.{sine, cosine};
-ghost use Rattle.series_enclose.specs.Turns.{IsProduct, between};
+ghost use Rattle.series_enclose.specs.Turns.{IsProduct};
 
 use crate::bounds::{Bounds, product_over};
 use crate::pi::{PI_HIGH, PI_LOW};
 use crate::turns::series_bounds;
-
-/// One, in ticks: the first term of a cosine.
-const ONE: u64 = 68_719_476_736;
+use fx_base::TICKS_IN_ONE;
 
 /// The angle in radians: times pi, by 180 degrees.
 fn arc_of(angle: u64) -> Bounds
@@ -42,7 +41,7 @@ fn square_of(arc: Bounds) -> Bounds
 /// The sine of an angle in millionths of a degree.
 pub fn sine_bounds(angle: u64) -> Bounds
     requires { angle ≤ 45000000 }
-    ensures meets { (n : ℕ) → Meets (between result.lo result.hi) (sine n (millionths angle)) }
+    ensures meets { (n : ℕ) → Meets (ticks_between result.lo result.hi) (sine n (millionths angle)) }
     ensures narrow { result.hi ≤ result.lo + 16 }
     ensures order { result.lo ≤ result.hi }
     ensures below { result.hi ≤ 2 ^ 40 }
@@ -56,14 +55,18 @@ pub fn sine_bounds(angle: u64) -> Bounds
 /// The cosine of an angle in millionths of a degree.
 pub fn cosine_bounds(angle: u64) -> Bounds
     requires { angle ≤ 45000000 }
-    ensures meets { (n : ℕ) → Meets (between result.lo result.hi) (cosine n (millionths angle)) }
+    ensures meets { (n : ℕ) → Meets (ticks_between result.lo result.hi) (cosine n (millionths angle)) }
     ensures narrow { result.hi ≤ result.lo + 16 }
     ensures order { result.lo ≤ result.hi }
     ensures below { result.hi ≤ 2 ^ 40 }
 {
     let arc = arc_of(angle);
     let square = square_of(arc);
-    let one = Bounds { lo: ONE, hi: ONE };
+    // the first term of a cosine
+    let one = Bounds {
+        lo: TICKS_IN_ONE as u64,
+        hi: TICKS_IN_ONE as u64,
+    };
     let half_square = product_over(one, square, 2);
     series_bounds(0, one, half_square, square)
 }

@@ -1,5 +1,8 @@
+//! Numbers between two ends in ticks, and their products.
 ghost use Rattle.std.specs.Prelude.{◌+◌, ◌*◌, ◌^◌, ◌<◌, ◌≤◌};
 ghost use Rattle.series_enclose.specs.Turns.{IsProduct};
+
+use fx_base::TICKS_IN_ONE;
 
 /// A number that isn't negative, between two ends in ticks.
 #[derive(Clone, Copy)]
@@ -7,8 +10,6 @@ pub struct Bounds {
     pub lo: u64,
     pub hi: u64,
 }
-
-const TICKS_IN_ONE: u128 = 68_719_476_736;
 
 /// The product by `divisor`, rounded down and up to a tick.
 #[tactic(auto, using(fx_base::proofs::Rounding::quotients_rule))]

@@ -1,3 +1,4 @@
+//! Pi.
 ghost use Rattle.std.specs.Prelude.{ℕ, ◌+ℤ◌, ◌≤ℤ◌, pos};
 ghost use Rattle.fx_base.specs.Interval.{Meets};
 ghost use Rattle.fx_base.specs.Units.{of_span};

@@ -1,17 +1,11 @@
-ghost use Rattle.std.specs.Prelude.{◌*◌, ◌<◌};
-ghost use Rattle.std.specs.Prelude.{length, vec_len, IfOk, ◌≡◌};
+//! The table of sines and cosines.
+ghost use Rattle.std.specs.Prelude.{◌≡◌, ◌*◌, ◌<◌, length, vec_len, IfOk};
 ghost use Rattle.series_enclose.specs.Enclosed.{IsCosine, IsRow, IsSine};
 ghost use Rattle.series_enclose.specs.Table.{IsTable};
 
 use crate::angle::{cos_span, sin_span};
 use fx_base::{Memory, Micro, Span};
-use std::alloc::{AllocError, Global};
-
-/// How many rows a table has: one for each 64th of a degree from 0 to 45.
-pub const ROWS: usize = 2_881;
-
-/// The millionths of a degree from one row to the next.
-pub const STEP: i64 = 15_625;
+use std::alloc::Global;
 
 #[derive(Clone, Copy)]
 struct Row {
@@ -23,19 +17,19 @@ fn row_at(k: usize) -> Row
     requires { k < 2881 }
     ensures { IsRow k result.sin result.cos }
 {
-    let angle = Micro(k as i64 * STEP);
+    let angle = Micro(k as i64 * TangentTable::STEP as i64);
     Row {
         sin: sin_span(angle),
         cos: cos_span(angle),
     }
 }
 
-fn all_rows(alloc: Global) -> Result<Vec<Row>, AllocError>
+fn all_rows(alloc: Global) -> Result<Vec<Row>, Memory>
     ensures size { IfOk result (λ rows. vec_len rows ≡ 2881) }
     ensures sound { IfOk result (λ rows. IsTable rows.items) }
 {
     let mut rows: Vec<Row> = Vec::new(alloc);
-    for k in 0..ROWS {
+    for k in 0..TangentTable::ROWS {
         rows.push(row_at(k))?;
     }
     Ok(rows)
@@ -50,12 +44,16 @@ pub struct TangentTable {
 }
 
 impl TangentTable {
+    /// How many rows a table has: one for each 64th of a degree from 0 to 45.
+    pub const ROWS: usize = 2_881;
+
+    /// The millionths of a degree from one row to the next.
+    pub const STEP: u32 = 15_625;
+
     /// Calculates all rows. Memory: none was left for them.
     pub fn build(alloc: Global) -> Result<TangentTable, Memory> {
-        match all_rows(alloc) {
-            Ok(rows) => Ok(TangentTable { rows }),
-            Err(_) => Err(Memory),
-        }
+        let rows = all_rows(alloc)?;
+        Ok(TangentTable { rows })
     }
 
     /// The sine of row's angle, row times 15,625 millionths of a degree.

@@ -1,5 +1,6 @@
+//! Spans and rows against values from outside.
 use crate::{TangentTable, cos_span, pi_span, sin_span};
-use fx_base::{Micro, Span};
+use fx_base::{MICROS_IN_DEGREE, Micro, Span};
 use std::test::Fail;
 
 /// The value lies between tick `floor` and the next one, the span holds both, and it is at most 16 ticks wide.
@@ -48,7 +49,7 @@ fn sines_and_cosines_hold_the_values_of_mpmath(rt: HostRuntime) {
 #[test]
 fn rows_are_the_spans_of_their_angles(rt: HostRuntime) -> Result<(), Fail> {
     let table = TangentTable::build(rt.alloc())?;
-    for row in [0, 1, 1_920, 2_880] {
+    for row in [0, 1, 1_920, TangentTable::ROWS - 1] {
         let angle = Micro(row as i64 * 15_625);
         assert_eq!(rt;
             table.sin(row).lo(),
@@ -62,4 +63,11 @@ fn rows_are_the_spans_of_their_angles(rt: HostRuntime) -> Result<(), Fail> {
         );
     }
     Ok(())
+}
+
+#[test]
+fn the_rows_go_from_0_to_45_degrees(rt: HostRuntime) {
+    // 45 * 64 + 1 rows, of a degree by 64 each
+    assert_eq!(rt; TangentTable::ROWS, 2_881);
+    assert_eq!(rt; TangentTable::STEP * 64, MICROS_IN_DEGREE);
 }

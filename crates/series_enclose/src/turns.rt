@@ -1,3 +1,4 @@
+//! The sums of a series, two terms a turn.
 ghost use Rattle.std.specs.Prelude.{◌+◌, ◌*◌, ◌^◌, ◌<◌, ◌≤◌, ◌≡◌};
 ghost use Rattle.fx_base.specs.Fraction.{Fraction};
 ghost use Rattle.series_enclose.specs.Turns.{IsStart, IsSum};
