@@ -12,7 +12,7 @@ use Rattle.fx_base.proofs.Order.{le_add_f}
 use Rattle.fx_base.proofs.Rounding.{natural-mono}
 use Rattle.fx_base.proofs.SearchLaws.{is_true_or_false}
 use Rattle.interval_system.specs.Equations.{RowsBelowOne}
-use Rattle.interval_system.specs.Lit.{value}
+use Rattle.interval_system.specs.Radiosity.{Light, IsLightOf, value, values}
 use Rattle.interval_system.specs.System.{IsDirectLight, NoneHeavy, no_light, weight_at, low_weight, high_weight, low_direct, high_direct}
 use Rattle.interval_system.specs.Whole.{total}
 use Rattle.radiosity_solve.specs.Bounds.{IsEnd, IsLowerAnswer, IsUpperAnswer, IsInOrder, no_tick, tick_at, ticks_solution}
@@ -22,7 +22,7 @@ use Rattle.room_layout.specs.Accepted.{IsAccepted}
 use Rattle.room_layout.specs.declared.room.Room.{Room}
 use Rattle.room_layout.specs.declared.geometry.Face.TheVariants.{Up}
 use Rattle.scene_system.specs.Assembled.{Numbers, IsSceneOf, IsWellFormed, point_weight, point_light}
-use Rattle.scene_system.specs.Scene.{patch_count, patch_place, patch_face, task_point_place, no_task_point, lit, loose}
+use Rattle.scene_system.specs.Scene.{patch_count, patch_place, patch_face, task_point_place, no_task_point, radiosity, loose_radiosity}
 use Rattle.scene_system.proofs.Orders.{in_order}
 use Rattle.scene_system.proofs.Rows.{rows_below, rows_are, few_patches, light_row, sum_below_one, weight_close}
 use Rattle.grid_report.specs.Laws.{ValuesArePoints}
@@ -84,58 +84,58 @@ low_rows room s lower upper b = record {
 -- ---- weights and spans within the loose numbers
 
 patch_weight_close : (n : ℕ) (room : Room) (s : Numbers) (i j : ℕ) → IsSceneOf room s → i < patch_count room → j < patch_count room
-    → LiesIn (record { lo = ticks (low_weight s.system i j); hi = ticks (high_weight s.system i j) }) ((loose n room).patches.coefficient i j)
+    → LiesIn (record { lo = ticks (low_weight s.system i j); hi = ticks (high_weight s.system i j) }) ((loose_radiosity n room).patches.coefficient i j)
 patch_weight_close n room s i j scene k l =
     weight_close n room (patch_place room i) (patch_face room i) j (weight_at s.system i j) (scene.weights i j k l)
 
 point_weight_close : (n : ℕ) (room : Room) (s : Numbers) (g j : ℕ) → IsSceneOf room s → g < length s.points → j < patch_count room
-    → LiesIn (record { lo = ticks (point_weight s g j).lo; hi = ticks (point_weight s g j).hi }) ((loose n room).coefficient g j)
+    → LiesIn (record { lo = ticks (point_weight s g j).lo; hi = ticks (point_weight s g j).hi }) ((loose_radiosity n room).coefficient g j)
 point_weight_close n room s g j scene k l =
     weight_close n room (task_point_place room g) Up j (point_weight s g j) (scene.point_weights g j k l)
 
 -- ---- the sums at point g meet the exact value
 
-lower_meets : (room : Room) (s : Numbers) (lower upper : List Tick) (n g : ℕ) → IsBounded room s lower upper → 2 ≤ n → g < length s.points
-    → ticks (lower_value s lower g) ≤ᶠ (value (lit n room) g).hi
-lower_meets room s lower upper n g b deep inside =
-    subst (λ (m : ℕ). ticks (natural (point_light s g).lo + total m (λ j. down_to (2 ^ 36) ((point_weight s g j).lo * tick_at lower j))) ≤ᶠ (value (lit n room) g).hi)
+lower_meets : (room : Room) (s : Numbers) (lower upper : List Tick) (n g : ℕ) (light : Light) → IsBounded room s lower upper → 2 ≤ n → IsLightOf (radiosity n room).patches light → g < length s.points
+    → ticks (lower_value s lower g) ≤ᶠ (value (radiosity n room) light g).hi
+lower_meets room s lower upper n g light b deep is inside =
+    subst (λ (m : ℕ). ticks (natural (point_light s g).lo + total m (λ j. down_to (2 ^ 36) ((point_weight s g j).lo * tick_at lower j))) ≤ᶠ (value (radiosity n room) light g).hi)
     (sym (patches_are room s b.scene))
-    (meets_above (lit n room) g (low_weight s.system) (low_direct s.system) (tick_at lower) (λ j. (point_weight s g j).lo) (natural (point_light s g).lo)
-    ((rows_below room s n b.accepted b.formed b.scene b.light deep).0)
+    (meets_above (radiosity n room) light g (low_weight s.system) (low_direct s.system) (tick_at lower) (λ j. (point_weight s g j).lo) (natural (point_light s g).lo)
+    is ((rows_below room s n b.accepted b.formed b.scene b.light deep).0)
     (λ i j k l. (b.scene.weights i j k l).low n) (λ i k. ((b.scene.lights i k).meets n).above) (lower_shown room s lower upper b)
     (λ j l. (b.scene.point_weights g j inside l).low n) ((b.scene.point_lights g inside).meets n).above)
 
-upper_meets : (room : Room) (s : Numbers) (lower upper : List Tick) (n g : ℕ) → IsBounded room s lower upper → 2 ≤ n → g < length s.points
-    → (value (lit n room) g).lo ≤ᶠ ticks (upper_value s upper g)
-upper_meets room s lower upper n g b deep inside =
-    subst (λ (m : ℕ). (value (lit n room) g).lo ≤ᶠ ticks (natural (point_light s g).hi + total m (λ j. up_to (2 ^ 36) ((point_weight s g j).hi * tick_at upper j))))
+upper_meets : (room : Room) (s : Numbers) (lower upper : List Tick) (n g : ℕ) (light : Light) → IsBounded room s lower upper → 2 ≤ n → IsLightOf (radiosity n room).patches light → g < length s.points
+    → (value (radiosity n room) light g).lo ≤ᶠ ticks (upper_value s upper g)
+upper_meets room s lower upper n g light b deep is inside =
+    subst (λ (m : ℕ). (value (radiosity n room) light g).lo ≤ᶠ ticks (natural (point_light s g).hi + total m (λ j. up_to (2 ^ 36) ((point_weight s g j).hi * tick_at upper j))))
     (sym (patches_are room s b.scene))
-    (meets_below (lit n room) g (high_weight s.system) (high_direct s.system) (tick_at upper) (λ j. (point_weight s g j).hi) (natural (point_light s g).hi)
-    ((rows_below room s n b.accepted b.formed b.scene b.light deep).0) ((in_order n room b.accepted).0)
+    (meets_below (radiosity n room) light g (high_weight s.system) (high_direct s.system) (tick_at upper) (λ j. (point_weight s g j).hi) (natural (point_light s g).hi)
+    is ((rows_below room s n b.accepted b.formed b.scene b.light deep).0)
     (λ i j k l. (b.scene.weights i j k l).high n) (λ i k. ((b.scene.lights i k).meets n).below) (upper_shown room s lower upper b)
     (λ j l. (b.scene.point_weights g j inside l).high n) ((b.scene.point_lights g inside).meets n).below)
 
 -- ---- and are near the loose one
 
-lower_near : (room : Room) (s : Numbers) (lower upper : List Tick) (n g : ℕ) → IsBounded room s lower upper → g < length s.points
-    → (outward (ticks 2048) (value (loose n room) g)).lo ≤ᶠ ticks (lower_value s lower g)
-lower_near room s lower upper n g b inside =
-    subst (λ (m : ℕ). (outward (ticks 2048) (value (loose n room) g)).lo
+lower_near : (room : Room) (s : Numbers) (lower upper : List Tick) (n g : ℕ) (light : Light) → IsBounded room s lower upper → 2 ≤ n → IsLightOf (loose_radiosity n room).patches light → g < length s.points
+    → (outward (ticks 2048) (value (loose_radiosity n room) light g)).lo ≤ᶠ ticks (lower_value s lower g)
+lower_near room s lower upper n g light b deep is inside =
+    subst (λ (m : ℕ). (outward (ticks 2048) (value (loose_radiosity n room) light g)).lo
     ≤ᶠ ticks (natural (point_light s g).lo + total m (λ j. down_to (2 ^ 36) ((point_weight s g j).lo * tick_at lower j))))
     (sym (patches_are room s b.scene))
-    (near_below (loose n room) g (low_weight s.system) (low_direct s.system) (tick_at lower) (λ j. (point_weight s g j).lo) (natural (point_light s g).lo)
-    (few_patches room s b.formed b.scene) (low_rows room s lower upper b)
+    (near_below (loose_radiosity n room) light g (low_weight s.system) (low_direct s.system) (tick_at lower) (λ j. (point_weight s g j).lo) (natural (point_light s g).lo)
+    (few_patches room s b.formed b.scene) is ((rows_below room s n b.accepted b.formed b.scene b.light deep).1) (low_rows room s lower upper b)
     (λ i j k l. (patch_weight_close n room s i j b.scene k l).lower) (λ i k. ((b.scene.lights i k).near n).lower) (lower_close room s lower upper b)
     (λ j l. (point_weight_close n room s g j b.scene inside l).lower) ((b.scene.point_lights g inside).near n).lower)
 
-upper_near : (room : Room) (s : Numbers) (lower upper : List Tick) (n g : ℕ) → IsBounded room s lower upper → 2 ≤ n → g < length s.points
-    → ticks (upper_value s upper g) ≤ᶠ (outward (ticks 2048) (value (loose n room) g)).hi
-upper_near room s lower upper n g b deep inside =
+upper_near : (room : Room) (s : Numbers) (lower upper : List Tick) (n g : ℕ) (light : Light) → IsBounded room s lower upper → 2 ≤ n → IsLightOf (loose_radiosity n room).patches light → g < length s.points
+    → ticks (upper_value s upper g) ≤ᶠ (outward (ticks 2048) (value (loose_radiosity n room) light g)).hi
+upper_near room s lower upper n g light b deep is inside =
     subst (λ (m : ℕ). ticks (natural (point_light s g).hi + total m (λ j. up_to (2 ^ 36) ((point_weight s g j).hi * tick_at upper j)))
-    ≤ᶠ (outward (ticks 2048) (value (loose n room) g)).hi)
+    ≤ᶠ (outward (ticks 2048) (value (loose_radiosity n room) light g)).hi)
     (sym (patches_are room s b.scene))
-    (near_above (loose n room) g (high_weight s.system) (high_direct s.system) (tick_at upper) (λ j. (point_weight s g j).hi) (natural (point_light s g).hi)
-    (few_patches room s b.formed b.scene) ((rows_below room s n b.accepted b.formed b.scene b.light deep).1)
+    (near_above (loose_radiosity n room) light g (high_weight s.system) (high_direct s.system) (tick_at upper) (λ j. (point_weight s g j).hi) (natural (point_light s g).hi)
+    (few_patches room s b.formed b.scene) is ((rows_below room s n b.accepted b.formed b.scene b.light deep).1)
     (λ i j k l. (patch_weight_close n room s i j b.scene k l).upper) (λ i k. ((b.scene.lights i k).near n).upper) (upper_close room s lower upper b)
     (λ j l. (point_weight_close n room s g j b.scene inside l).upper) ((b.scene.point_lights g inside).near n).upper)
 
@@ -198,16 +198,17 @@ value_most room s lower upper g b inside =
 
 point_is : (room : Room) (s : Numbers) (lower upper : List Tick) (g : ℕ) (v : PointValue) → IsBounded room s lower upper → g < length s.points
     → IsValueOf s lower upper g v → IsPoint room g v
+unfolding values
 point_is room s lower upper g v b inside is =
     record {
       covered_is = is.covered_is ∙ ap (λ (points : List _). (slice_index_or points g no_task_point).covered) b.scene.points_are;
-      meets = λ seen n deep. record {
-        above = subst (λ (z : ℤ). ticks (natural z) ≤ᶠ (value (lit n room) g).hi) (sym (is.low seen)) (lower_meets room s lower upper n g b deep inside);
-        below = subst (λ (z : ℤ). (value (lit n room) g).lo ≤ᶠ ticks (natural z)) (sym (is.high seen)) (upper_meets room s lower upper n g b deep inside);
+      meets = λ seen n deep light solves. record {
+        above = subst (λ (z : ℤ). ticks (natural z) ≤ᶠ (value (radiosity n room) light g).hi) (sym (is.low seen)) (lower_meets room s lower upper n g light b deep solves inside);
+        below = subst (λ (z : ℤ). (value (radiosity n room) light g).lo ≤ᶠ ticks (natural z)) (sym (is.high seen)) (upper_meets room s lower upper n g light b deep solves inside);
       };
-      near = λ seen n deep. record {
-        lower = subst (λ (z : ℤ). (outward (ticks 2048) (value (loose n room) g)).lo ≤ᶠ ticks (natural z)) (sym (is.low seen)) (lower_near room s lower upper n g b inside);
-        upper = subst (λ (z : ℤ). ticks (natural z) ≤ᶠ (outward (ticks 2048) (value (loose n room) g)).hi) (sym (is.high seen)) (upper_near room s lower upper n g b deep inside);
+      near = λ seen n deep light solves. record {
+        lower = subst (λ (z : ℤ). (outward (ticks 2048) (value (loose_radiosity n room) light g)).lo ≤ᶠ ticks (natural z)) (sym (is.low seen)) (lower_near room s lower upper n g light b deep solves inside);
+        upper = subst (λ (z : ℤ). ticks (natural z) ≤ᶠ (outward (ticks 2048) (value (loose_radiosity n room) light g)).hi) (sym (is.high seen)) (upper_near room s lower upper n g light b deep solves inside);
       };
       low = elim (is_true_or_false v.covered) [
         | inl c ↦ rw (is.nothing c) (omega (arith, ints))
@@ -224,6 +225,7 @@ point_is room s lower upper g v b inside is =
     }
 
 pub values_are_points : ValuesArePoints
+unfolding values
 values_are_points room s lower upper values accepted formed scene light lower_is upper_is ordered are =
     let b : IsBounded room s lower upper =
     record { accepted = accepted; formed = formed; scene = scene; light = light; lower_is = lower_is; upper_is = upper_is; ordered = ordered } in
@@ -233,6 +235,6 @@ values_are_points room s lower upper values accepted formed scene light lower_is
       each = λ g d inside. point_is room s lower upper g (slice_index_or values g d) b (let c = are.count in omega (arith, c, inside)) (are.each g d inside);
       rows = λ n deep. (rows_below room s n accepted formed scene light deep).0;
       loose_rows = λ n deep. (rows_below room s n accepted formed scene light deep).1;
-      order = λ n g deep inside. value_order (lit n room) g ((in_order n room accepted).0) ((rows_below room s n accepted formed scene light deep).0) (omega (arith, count, inside));
-      loose_order = λ n g deep inside. value_order (loose n room) g ((in_order n room accepted).1) ((rows_below room s n accepted formed scene light deep).1) (omega (arith, count, inside));
+      order = λ g inside n deep own solves. value_order (radiosity n room) own g solves ((rows_below room s n accepted formed scene light deep).0) ((in_order n room accepted).0) (omega (arith, count, inside));
+      loose_order = λ g inside n deep own solves. value_order (loose_radiosity n room) own g solves ((rows_below room s n accepted formed scene light deep).1) ((in_order n room accepted).1) (omega (arith, count, inside));
     }

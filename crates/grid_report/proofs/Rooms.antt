@@ -2,18 +2,20 @@
 use Rattle.std.proofs.Common.{ℕ, zero, suc, ◌*◌, ◌/◌, ◌<◌, ◌≤◌, ◌≡◌, ◌⊎◌, ◌↔◌, Bool, true, false, if◌then◌else◌, min, List, [], ◌∷◌, length, map, arith, refl, sym, subst, ap, ◌∙◌, inl, inr}
 use Rattle.std.specs.Prelude.{slice_index_or, Option, Some, None, IfSome, IfNone, IsNone, MatchOption}
 use Rattle.std.specs.Int.{div_ceil}
-use Rattle.std.proofs.Math.Nat.{div-mul-le_self}
+use Rattle.std.proofs.Math.Nat.{div-mul-le_self, mul-le-mul_left, le_of_mul-le-mul_left}
 use Rattle.std.proofs.lemmas.Bool.{cases_lt}
 use Rattle.std.proofs.lemmas.Grind.{div_ceil_times}
 use Rattle.fx_base.specs.Fraction.{◌≤ᶠ◌, ◌<ᶠ◌, ◌+ᶠ◌, ratio, whole, half_power}
 use Rattle.fx_base.specs.Interval.{Meets, LiesIn, outward}
 use Rattle.fx_base.specs.Units.{ticks, natural}
 use Rattle.fx_base.proofs.Order.{le_lt_trans_f, sub_back_f}
-use Rattle.interval_system.specs.Lit.{value, grid}
+use Rattle.fx_base.proofs.Rounding.{natural-mono}
+use Rattle.interval_system.specs.Radiosity.{Light, IsLightOf, values}
 use Rattle.interval_system.specs.Values.{average, uniformity}
 use Rattle.room_layout.specs.declared.room.Room.{Room}
-use Rattle.scene_system.specs.Scene.{task_point_of, lit, loose}
-use Rattle.grid_report.specs.Headline.{AtEachDepth, least_end, Fits, MeetsValues, IsNarrow, IsRight}
+use Rattle.scene_system.specs.Scene.{task_point_of, radiosity, loose_radiosity}
+use Rattle.grid_report.specs.Headline.{least_end, IsInOrder, Fits, HaveOneSolution, MeetsValues, IsNarrow, IsRight}
+use Rattle.grid_report.specs.RoomValues.{ForExactValues, ForLooseValues}
 use Rattle.grid_report.specs.Printed.{Printed, Report, said}
 use Rattle.grid_report.specs.PointValues.{ArePoints}
 use Rattle.grid_report.specs.Reports.{in_cents, in_thousandths, printed_value, IsReportOf}
@@ -33,23 +35,25 @@ covered_points room vs are = λ g d l. (are.each g d l).covered_is
 each_value : (room : Room) (vs : List PointValue) → ArePoints room vs → (g : ℕ) (d : PointValue) → g < length vs → IsValue (slice_index_or vs g d)
 each_value room vs are g d l = let v = are.each g d l in record { low = v.low; order = v.order; high = v.high }
 
-meeting : (room : Room) (vs : List PointValue) (n : ℕ) → 2 ≤ n → ArePoints room vs → AreMeeting (grid (lit n room)) vs
-unfolding grid
-meeting room vs n deep are = record {
+meeting : (room : Room) (vs : List PointValue) (n : ℕ) (light : Light) → 2 ≤ n → IsLightOf (radiosity n room).patches light → ArePoints room vs
+    → AreMeeting (values (radiosity n room) light) vs
+unfolding values
+meeting room vs n light deep solves are = record {
   count = sym are.count;
   covered = covered_points room vs are;
-  meets = λ g d l o. (are.each g d l).meets ((are.each g d l).covered_is ∙ o) n deep;
-  order = λ g l. are.order n g deep l;
+  meets = λ g d l o. (are.each g d l).meets ((are.each g d l).covered_is ∙ o) n deep light solves;
+  order = λ g l. are.order g l n deep light solves;
 }
 
-near : (room : Room) (vs : List PointValue) (n : ℕ) → 2 ≤ n → ArePoints room vs → AreNear 2048 (grid (loose n room)) vs
-unfolding grid
-near room vs n deep are = record {
+near : (room : Room) (vs : List PointValue) (n : ℕ) (light : Light) → 2 ≤ n → IsLightOf (loose_radiosity n room).patches light → ArePoints room vs
+    → AreNear 2048 (values (loose_radiosity n room) light) vs
+unfolding values
+near room vs n light deep solves are = record {
   few = omega arith;
   count = sym are.count;
   covered = covered_points room vs are;
-  near = λ g d l o. (are.each g d l).near ((are.each g d l).covered_is ∙ o) n deep;
-  order = λ g l. are.loose_order n g deep l;
+  near = λ g d l o. (are.each g d l).near ((are.each g d l).covered_is ∙ o) n deep light solves;
+  order = λ g l. are.loose_order g l n deep light solves;
 }
 
 -- ---- the printed values of the points
@@ -95,21 +99,22 @@ length-map (v ∷ vs) = ap suc (length-map vs)
 -- ---- the parts of the promise
 
 points_meet : (room : Room) (vs : List PointValue) → ArePoints room vs → (g : ℕ)
-    → IfSome (slice_index_or (map printed_value vs) g None) (λ e. AtEachDepth (λ n. Meets (said 100 e) (value (lit n room) g)))
+    → IfSome (slice_index_or (map printed_value vs) g None) (λ e. ForExactValues room (λ x. Meets (said 100 e) (x.value g)))
 points_meet room vs are g =
-    let P : Option Printed → Type 0 = λ o. IfSome o (λ e. AtEachDepth (λ n. Meets (said 100 e) (value (lit n room) g))) in
+    let P : Option Printed → Type 0 = λ o. IfSome o (λ e. ForExactValues room (λ x. Meets (said 100 e) (x.value g))) in
     let v = slice_index_or vs g no_point in
     each_printed P vs g tt (λ l. by_cover P v.covered (in_cents (natural v.value.lo) (natural v.value.hi)) tt
-    (λ o n deep. printed_meets (natural v.value.lo) (natural v.value.hi) (value (lit n room) g) ((are.each g no_point l).meets o n deep)))
+    (λ o n deep light solves. printed_meets (natural v.value.lo) (natural v.value.hi) ((values (radiosity n room) light).value g) ((are.each g no_point l).meets o n deep light solves)))
 
 points_near : (room : Room) (vs : List PointValue) → ArePoints room vs → (g : ℕ)
-    → IfSome (slice_index_or (map printed_value vs) g None) (λ e. AtEachDepth (λ n. LiesIn (said 100 e) (outward (ratio 12 1000) (value (loose n room) g))))
+    → IfSome (slice_index_or (map printed_value vs) g None) (λ e. ForLooseValues room (λ x. LiesIn (said 100 e) (outward (ratio 12 1000) (x.value g))))
 points_near room vs are g =
-    let P : Option Printed → Type 0 = λ o. IfSome o (λ e. AtEachDepth (λ n. LiesIn (said 100 e) (outward (ratio 12 1000) (value (loose n room) g)))) in
+    let P : Option Printed → Type 0 = λ o. IfSome o (λ e. ForLooseValues room (λ x. LiesIn (said 100 e) (outward (ratio 12 1000) (x.value g)))) in
     let v = slice_index_or vs g no_point in
     each_printed P vs g tt (λ l. by_cover P v.covered (in_cents (natural v.value.lo) (natural v.value.hi)) tt
-    (λ o n deep. let k = (are.each g no_point l).near o n deep in
-    printed_near 2048 (natural v.value.lo) (natural v.value.hi) (value (loose n room) g) (omega arith) (sub_back_f (value (loose n room) g).lo (ticks 2048) k.lower) k.upper))
+    (λ o n deep light solves. let k = (are.each g no_point l).near o n deep light solves in
+    let x = (values (loose_radiosity n room) light).value g in
+    printed_near 2048 (natural v.value.lo) (natural v.value.hi) x (omega arith) (sub_back_f x.lo (ticks 2048) k.lower) k.upper))
 
 -- a printed uniformity is of the least ends and the average's ends
 abbrev IsPrintedUniformity : List PointValue → Printed → Type 0
@@ -249,29 +254,73 @@ least_high_printed vs b high is e =
       | inr g ↦ absurd (none_some (w.1) (sym (printed_past vs (w.0) g) ∙ w.2))
     ]
 
+-- ---- what is printed is in order
+
+-- ticks in order are printed in order
+cents_order : (low high : ℕ) → low ≤ high → IsInOrder (in_cents low high)
+cents_order low high h = omega (arith, div-mul-le_self (low * 100) 68719476736, (div_ceil_times (high * 100) 68719476736 (omega arith)).0, h)
+
+positive_cents : (high : ℕ) → 0 < high → 0 < div_ceil (high * 100) 68719476736
+positive_cents high h = omega (arith, (div_ceil_times (high * 100) 68719476736 (omega arith)).0, h)
+
+points_order : (room : Room) (vs : List PointValue) → ArePoints room vs → (g : ℕ) → IfSome (slice_index_or (map printed_value vs) g None) IsInOrder
+points_order room vs are g =
+    let P : Option Printed → Type 0 = λ o. IfSome o IsInOrder in
+    let v = slice_index_or vs g no_point in
+    each_printed P vs g tt (λ l. let p = are.each g no_point l in by_cover P v.covered (in_cents (natural v.value.lo) (natural v.value.hi)) tt
+    (λ o. cents_order (natural v.value.lo) (natural v.value.hi) (natural-mono v.value.lo v.value.hi p.low p.order)))
+
+-- the least lower end is at most the least upper end
+leasts_order : (vs : List PointValue) (a b : ℕ) → ((g : ℕ) (d : PointValue) → g < length vs → IsValue (slice_index_or vs g d))
+    → IsLeast lower_end vs a → IsLeast upper_end vs b → a ≤ b
+leasts_order vs a b each low high =
+    let w = high.attained no_point in
+    let v = slice_index_or vs (w.0) no_point in
+    let one = low.below (w.0) no_point (w.1) (w.2) in
+    let is = each (w.0) no_point (w.1) in
+    let two = natural-mono v.value.lo v.value.hi is.low is.order in
+    let three = w.3 in omega arith
+
+quotients_order : (a b low high m n : ℕ) → a ≤ b → low ≤ high → 0 < low → m * high ≤ a * 1000 → b * 1000 ≤ n * low → m ≤ n
+quotients_order a b low high m n h o p below above =
+    le_of_mul-le-mul_left {k = low} (omega (arith, mul-le-mul_left m o, below, above, h)) p
+
+printed_order : (vs : List PointValue) (e : Printed) → ((g : ℕ) (d : PointValue) → g < length vs → IsValue (slice_index_or vs g d)) → IsShare vs e → IsInOrder e
+printed_order vs e each s = elim s.up.over [
+  | inl one ↦ (let m = s.down.most in omega arith)
+  | inr above ↦ quotients_order s.a s.b (average_low vs) (average_high vs) e.lo e.hi (leasts_order vs s.a s.b each s.least_low s.least_high) s.order s.positive s.down.under above
+]
+
 -- ---- the whole promise
 
-fits : (room : Room) (vs : List PointValue) (r : Report) → ArePoints room vs → IsReportOf room.task.nx vs r → Fits room r
-fits room vs r are of = record {
+fits : (room : Room) (vs : List PointValue) (r : Report) → ArePoints room vs → 0 < open_total vs → IsReportOf room.task.nx vs r → Fits room r
+fits room vs r are some of = record {
   columns = of.columns_are;
   points = rw of.points_are (length-map vs ∙ are.count);
   covered = rw of.points_are (λ g l. let h : g < length vs = omega (arith, l, length-map vs) in
       let v = slice_index_or vs g no_point in
       rw (printed_within vs g h) (none_where_covered v.covered (task_point_of room g).covered (in_cents (natural v.value.lo) (natural v.value.hi)) (are.each g no_point h).covered_is));
+  points_in_order = λ g. rw of.points_are (points_order room vs are g);
+  average_in_order = rw of.average_is (cents_order (average_low vs) (average_high vs)
+      (averages_order vs (λ g. (task_point_of room g).covered) (covered_points room vs are) some (each_value room vs are)));
+  uniformity_in_order = some_case r.uniformity (average_low vs ≡ 0) (IsPrintedUniformity vs) IsInOrder of.uniformity_is
+      (λ e i. printed_order vs e (each_value room vs are) (shares_of room vs e are some i));
 }
 
 meets : (room : Room) (vs : List PointValue) (r : Report) → ArePoints room vs → 0 < open_total vs → IsReportOf room.task.nx vs r → MeetsValues room r
 meets room vs r are some of = record {
-  rows = are.rows;
   each_point = λ g. rw of.points_are (points_meet room vs are g);
-  the_average = λ n h. rw of.average_is (printed_meets (average_low vs) (average_high vs) (average (grid (lit n room))) (average_meets (grid (lit n room)) vs (meeting room vs n h are) some));
-  the_uniformity = some_case r.uniformity (average_low vs ≡ 0) (IsPrintedUniformity vs) (λ e. AtEachDepth (λ n. Meets (said 1000 e) (uniformity (grid (lit n room))))) of.uniformity_is
-      (λ e i n h. let s = shares_of room vs e are some i in record {
-        above = down_uniformity (grid (lit n room)) vs s.a e.lo (meeting room vs n h are) some s.least_low s.down;
-        below = up_uniformity (grid (lit n room)) vs s.b e.hi (meeting room vs n h are) some s.positive s.least_high s.up;
+  the_average = λ n h light solves. rw of.average_is (printed_meets (average_low vs) (average_high vs) (average (values (radiosity n room) light))
+      (average_meets (values (radiosity n room) light) vs (meeting room vs n light h solves are) some));
+  the_uniformity = some_case r.uniformity (average_low vs ≡ 0) (IsPrintedUniformity vs) (λ e. ForExactValues room (λ x. Meets (said 1000 e) (uniformity x))) of.uniformity_is
+      (λ e i n h light solves. let s = shares_of room vs e are some i in record {
+        above = down_uniformity (values (radiosity n room) light) vs s.a e.lo (meeting room vs n light h solves are) some s.least_low s.down;
+        below = up_uniformity (values (radiosity n room) light) vs s.b e.hi (meeting room vs n light h solves are) some s.positive s.least_high s.up;
       });
-  positive = some_case r.uniformity (average_low vs ≡ 0) (IsPrintedUniformity vs) (λ e. AtEachDepth (λ n. whole 0 <ᶠ (average (grid (lit n room))).hi)) of.uniformity_is
-      (λ e i n h. positive_average (grid (lit n room)) vs (meeting room vs n h are) some (i.1).positive);
+  positive = some_case r.uniformity (average_low vs ≡ 0) (IsPrintedUniformity vs) (λ e. ForExactValues room (λ x. whole 0 <ᶠ (average x).hi)) of.uniformity_is
+      (λ e i n h light solves. positive_average (values (radiosity n room) light) vs (meeting room vs n light h solves are) some (i.1).positive);
+  printed_positive = some_case r.uniformity (average_low vs ≡ 0) (IsPrintedUniformity vs) (λ e. 0 < r.average.hi) of.uniformity_is
+      (λ e i. let s = shares_of room vs e are some i in rw of.average_is (positive_cents (average_high vs) (let o = s.order in let p = s.positive in omega arith)));
   none = none_case r.uniformity (average_low vs ≡ 0) (r.average.lo ≡ 0) (IsPrintedUniformity vs) of.uniformity_is (λ z. rw (of.average_is, z) refl);
 }
 
@@ -287,17 +336,17 @@ few_ticks t e = rw e (record { cross = omega arith })
 
 narrow : (room : Room) (vs : List PointValue) (r : Report) → ArePoints room vs → 0 < open_total vs → IsReportOf room.task.nx vs r → IsNarrow room r
 narrow room vs r are some of = record {
-  rows = are.loose_rows;
   each_point = λ g. rw of.points_are (points_near room vs are g);
-  the_average = λ n h. rw of.average_is (printed_near 2049 (average_low vs) (average_high vs) (average (grid (loose n room))) (omega arith)
-      (average_near_low 2048 (grid (loose n room)) vs (near room vs n h are) some) (average_near_high 2048 (grid (loose n room)) vs (near room vs n h are) some));
-  none = none_case r.uniformity (average_low vs ≡ 0) (AtEachDepth (λ n. (average (grid (loose n room))).lo <ᶠ half_power 20)) (IsPrintedUniformity vs) of.uniformity_is
-      (λ z n h. le_lt_trans_f (average_near_low 2048 (grid (loose n room)) vs (near room vs n h are) some) (few_ticks (average_low vs) z));
+  the_average = λ n h light solves. rw of.average_is (printed_near 2049 (average_low vs) (average_high vs) (average (values (loose_radiosity n room) light)) (omega arith)
+      (average_near_low 2048 (values (loose_radiosity n room) light) vs (near room vs n light h solves are) some)
+      (average_near_high 2048 (values (loose_radiosity n room) light) vs (near room vs n light h solves are) some));
+  none = none_case r.uniformity (average_low vs ≡ 0) (ForLooseValues room (λ x. (average x).lo <ᶠ half_power 20)) (IsPrintedUniformity vs) of.uniformity_is
+      (λ z n h light solves. le_lt_trans_f (average_near_low 2048 (values (loose_radiosity n room) light) vs (near room vs n light h solves are) some) (few_ticks (average_low vs) z));
   the_uniformity = some_case r.uniformity (average_low vs ≡ 0) (IsPrintedUniformity vs)
-      (λ e. AtEachDepth (λ n. whole 1 ≤ᶠ (average (grid (loose n room))).lo → LiesIn (said 1000 e) (outward (ratio 2 1000) (uniformity (grid (loose n room)))))) of.uniformity_is
-      (λ e i n h one. let s = shares_of room vs e are some i in record {
-        lower = down_uniformity_near 2048 (grid (loose n room)) vs s.a e.lo (near room vs n h are) some s.order s.least_low s.down one;
-        upper = up_uniformity_near 2048 (grid (loose n room)) vs s.b e.hi (near room vs n h are) some s.least_high s.up one;
+      (λ e. ForLooseValues room (λ x. whole 1 ≤ᶠ (average x).lo → LiesIn (said 1000 e) (outward (ratio 2 1000) (uniformity x)))) of.uniformity_is
+      (λ e i n h light solves one. let s = shares_of room vs e are some i in record {
+        lower = down_uniformity_near 2048 (values (loose_radiosity n room) light) vs s.a e.lo (near room vs n light h solves are) some s.order s.least_low s.down one;
+        upper = up_uniformity_near 2048 (values (loose_radiosity n room) light) vs s.b e.hi (near room vs n light h solves are) some s.least_high s.up one;
       });
   at_most_one = some_case r.uniformity (average_low vs ≡ 0) (IsPrintedUniformity vs) (λ e. e.hi ≤ 1000) of.uniformity_is
       (λ e i. (shares_of room vs e are some i).up.most);
@@ -315,4 +364,4 @@ narrow room vs r are some of = record {
 }
 
 pub is_right : (room : Room) (vs : List PointValue) (r : Report) → ArePoints room vs → 0 < open_total vs → IsReportOf room.task.nx vs r → IsRight room r
-is_right room vs r are some of = record { fits = fits room vs r are of; meets = meets room vs r are some of; narrow = narrow room vs r are some of }
+is_right room vs r are some of = record { fits = fits room vs r are some of; one_solution = record { exact = are.rows; loose = are.loose_rows }; meets = meets room vs r are some of; narrow = narrow room vs r are some of }

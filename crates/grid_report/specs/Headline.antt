@@ -2,36 +2,44 @@
 use Rattle.std.specs.Prelude.{ℕ, ◌≡◌, ◌*◌, ◌≤◌, ◌<◌, ◌↔◌, true, List, [], ◌∷◌, length, min, slice_index_or, Option, Some, None, IfSome, IfNone, IsNone}
 use Rattle.fx_base.specs.Fraction.{◌≤ᶠ◌, ◌<ᶠ◌, ◌+ᶠ◌, ratio, whole, half_power}
 use Rattle.fx_base.specs.Interval.{Meets, LiesIn, outward}
-use Rattle.interval_system.specs.Equations.{RowsBelowOne}
-use Rattle.interval_system.specs.Lit.{value, grid}
+use Rattle.interval_system.specs.Radiosity.{AreRowsBelowOne}
 use Rattle.interval_system.specs.Values.{average, uniformity}
 use Rattle.room_layout.specs.declared.room.Room.{Room}
+use Rattle.scene_system.specs.Scene.{task_point_of, radiosity, loose_radiosity}
 use Rattle.grid_report.specs.Printed.{Printed, Report, said}
-use Rattle.scene_system.specs.Scene.{patch_count, lit, loose}
-
--- at each depth from 2
-abbrev pub AtEachDepth : (ℕ → Type 0) → Type 0
-AtEachDepth P = (n : ℕ) → 2 ≤ n → P n
+use Rattle.grid_report.specs.RoomValues.{ForExactValues, ForLooseValues}
 
 abbrev pub ends_at : Report → ℕ → Option Printed
 ends_at r g = slice_index_or r.points g None
 
--- ---- the lines are those of the room
+-- ---- the lines are those of the room, and what they say is in order
+
+abbrev pub IsInOrder : Printed → Type 0
+IsInOrder e = e.lo ≤ e.hi
 
 pub record Fits (room : Room) (r : Report) : Type 0 where
   pub columns : r.columns ≡ room.task.nx
   pub points : length r.points ≡ room.task.nx * room.task.ny
-  pub covered : (g : ℕ) → g < length r.points → IsNone (ends_at r g) ↔ ((lit 2 room).covered g ≡ true)
+  pub covered : (g : ℕ) → g < length r.points → IsNone (ends_at r g) ↔ ((task_point_of room g).covered ≡ true)
+  pub points_in_order : (g : ℕ) → IfSome (ends_at r g) IsInOrder
+  pub average_in_order : IsInOrder r.average
+  pub uniformity_in_order : IfSome r.uniformity IsInOrder
+
+-- ---- the radiosity equations have one solution at each depth, exact and loose, by their lower and by their upper ends
+
+pub record HaveOneSolution (room : Room) : Type 0 where
+  pub exact : (n : ℕ) → 2 ≤ n → AreRowsBelowOne (radiosity n room).patches
+  pub loose : (n : ℕ) → 2 ≤ n → AreRowsBelowOne (loose_radiosity n room).patches
 
 -- ---- the printed intervals meet the exact values
 
 pub record MeetsValues (room : Room) (r : Report) : Type 0 where
-  -- so that the radiosity equations have one solution at each depth
-  pub rows : AtEachDepth (λ n. RowsBelowOne (patch_count room) (λ i j. ((lit n room).patches.coefficient i j).hi))
-  pub each_point : (g : ℕ) → IfSome (ends_at r g) (λ e. AtEachDepth (λ n. Meets (said 100 e) (value (lit n room) g)))
-  pub the_average : AtEachDepth (λ n. Meets (said 100 r.average) (average (grid (lit n room))))
-  pub the_uniformity : IfSome r.uniformity (λ e. AtEachDepth (λ n. Meets (said 1000 e) (uniformity (grid (lit n room)))))
-  pub positive : IfSome r.uniformity (λ _. AtEachDepth (λ n. whole 0 <ᶠ (average (grid (lit n room))).hi))
+  pub each_point : (g : ℕ) → IfSome (ends_at r g) (λ e. ForExactValues room (λ x. Meets (said 100 e) (x.value g)))
+  pub the_average : ForExactValues room (λ x. Meets (said 100 r.average) (average x))
+  pub the_uniformity : IfSome r.uniformity (λ e. ForExactValues room (λ x. Meets (said 1000 e) (uniformity x)))
+  -- a uniformity is printed only where the average is positive, exactly and as printed; none only where its printed lower end is 0
+  pub positive : IfSome r.uniformity (λ e. ForExactValues room (λ x. whole 0 <ᶠ (average x).hi))
+  pub printed_positive : IfSome r.uniformity (λ e. 0 < r.average.hi)
   pub none : IfNone r.uniformity (r.average.lo ≡ 0)
 
 -- ---- and are no wider than the loose values allow
@@ -43,14 +51,13 @@ least_end side (None ∷ more) = least_end side more
 least_end side (Some e ∷ more) = elim (least_end side more) [ None ↦ Some (side e) | Some m ↦ Some (min (side e) m) ]
 
 pub record IsNarrow (room : Room) (r : Report) : Type 0 where
-  -- so that the loose equations have one solution at each depth
-  pub rows : AtEachDepth (λ n. RowsBelowOne (patch_count room) (λ i j. ((loose n room).patches.coefficient i j).hi))
-  pub each_point : (g : ℕ) → IfSome (ends_at r g) (λ e. AtEachDepth (λ n. LiesIn (said 100 e) (outward (ratio 12 1000) (value (loose n room) g))))
-  pub the_average : AtEachDepth (λ n. LiesIn (said 100 r.average) (outward (ratio 12 1000) (average (grid (loose n room)))))
-  pub none : IfNone r.uniformity (AtEachDepth (λ n. (average (grid (loose n room))).lo <ᶠ half_power 20))
-  pub the_uniformity : IfSome r.uniformity (λ e. AtEachDepth (λ n.
-      whole 1 ≤ᶠ (average (grid (loose n room))).lo → LiesIn (said 1000 e) (outward (ratio 2 1000) (uniformity (grid (loose n room))))))
+  pub each_point : (g : ℕ) → IfSome (ends_at r g) (λ e. ForLooseValues room (λ x. LiesIn (said 100 e) (outward (ratio 12 1000) (x.value g))))
+  pub the_average : ForLooseValues room (λ x. LiesIn (said 100 r.average) (outward (ratio 12 1000) (average x)))
+  pub none : IfNone r.uniformity (ForLooseValues room (λ x. (average x).lo <ᶠ half_power 20))
+  pub the_uniformity : IfSome r.uniformity (λ e. ForLooseValues room (λ x.
+      whole 1 ≤ᶠ (average x).lo → LiesIn (said 1000 e) (outward (ratio 2 1000) (uniformity x))))
   pub at_most_one : IfSome r.uniformity (λ e. e.hi ≤ 1000)
+  -- and never further out than the quotients of the printed ends by a thousandth
   pub lower_by_ends : IfSome r.uniformity (λ e. IfSome (least_end (λ (d : Printed). d.lo) r.points) (λ low.
       ratio low r.average.hi ≤ᶠ (ratio e.lo 1000 +ᶠ ratio 1 1000)))
   pub upper_by_ends : IfSome r.uniformity (λ e. IfSome (least_end (λ (d : Printed). d.hi) r.points) (λ high.
@@ -58,5 +65,6 @@ pub record IsNarrow (room : Room) (r : Report) : Type 0 where
 
 pub record IsRight (room : Room) (r : Report) : Type 0 where
   pub fits : Fits room r
+  pub one_solution : HaveOneSolution room
   pub meets : MeetsValues room r
   pub narrow : IsNarrow room r

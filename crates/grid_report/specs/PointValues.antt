@@ -3,15 +3,15 @@ use Rattle.std.specs.Prelude.{ℕ, ◌≡◌, ◌+◌, ◌*◌, ◌^◌, ◌<◌
 use Rattle.fx_base.specs.Interval.{Meets, LiesIn, InOrder, outward}
 use Rattle.fx_base.specs.Units.{natural, ticks, of_span}
 use Rattle.fx_base.specs.declared.Tick.{Tick}
-use Rattle.interval_system.specs.Equations.{RowsBelowOne}
-use Rattle.interval_system.specs.Lit.{value}
+use Rattle.interval_system.specs.Radiosity.{Light, AreRowsBelowOne}
 use Rattle.interval_system.specs.System.{no_light}
 use Rattle.interval_system.specs.Whole.{total}
 use Rattle.radiosity_solve.specs.Bounds.{tick_at}
 use Rattle.radiosity_solve.specs.Shown.{down_to, up_to}
 use Rattle.room_layout.specs.declared.room.Room.{Room}
 use Rattle.scene_system.specs.Assembled.{Numbers, point_weight, point_light}
-use Rattle.scene_system.specs.Scene.{patch_count, task_point_of, no_task_point, lit, loose}
+use Rattle.scene_system.specs.Scene.{task_point_of, no_task_point, radiosity, loose_radiosity}
+use Rattle.grid_report.specs.RoomValues.{ForExactValues, ForLooseValues}
 use Rattle.grid_report.specs.declared.value.PointValue.{PointValue}
 
 -- ---- the sums of the program: the light of the lamps and what the patches send there, each product rounded outward
@@ -39,20 +39,20 @@ pub record AreValuesOf (s : Numbers) (lower upper : List Tick) (values : List Po
 abbrev pub most_rounding : Rattle.fx_base.specs.Fraction.Fraction
 most_rounding = ticks 2048
 
--- the value at point g: it meets the exact value at each depth from 2, and lies near the loose one
+-- the value at point g: it meets the exact value at each depth from 2, and lies near the loose one there
 pub record IsPoint (room : Room) (g : ℕ) (v : PointValue) : Type 0 where
   pub covered_is : v.covered ≡ (task_point_of room g).covered
-  pub meets : v.covered ≡ false → (n : ℕ) → 2 ≤ n → Meets (of_span v.value) (value (lit n room) g)
-  pub near : v.covered ≡ false → (n : ℕ) → 2 ≤ n → LiesIn (of_span v.value) (outward most_rounding (value (loose n room) g))
+  pub meets : v.covered ≡ false → ForExactValues room (λ x. Meets (of_span v.value) (x.value g))
+  pub near : v.covered ≡ false → ForLooseValues room (λ x. LiesIn (of_span v.value) (outward most_rounding (x.value g)))
   pub low : pos 0 ≤ℤ v.value.lo
   pub order : v.value.lo ≤ℤ v.value.hi
   pub high : natural v.value.hi ≤ 2 ^ 102
 
--- the values at all points of a room, whose equations have one solution at each depth from 2
+-- the values at all points of a room, whose equations have one solution at each depth from 2, exact and loose
 pub record ArePoints (room : Room) (values : List PointValue) : Type 0 where
   pub count : length values ≡ room.task.nx * room.task.ny
   pub each : (g : ℕ) (d : PointValue) → g < length values → IsPoint room g (slice_index_or values g d)
-  pub rows : (n : ℕ) → 2 ≤ n → RowsBelowOne (patch_count room) (λ i j. ((lit n room).patches.coefficient i j).hi)
-  pub loose_rows : (n : ℕ) → 2 ≤ n → RowsBelowOne (patch_count room) (λ i j. ((loose n room).patches.coefficient i j).hi)
-  pub order : (n g : ℕ) → 2 ≤ n → g < length values → InOrder (value (lit n room) g)
-  pub loose_order : (n g : ℕ) → 2 ≤ n → g < length values → InOrder (value (loose n room) g)
+  pub rows : (n : ℕ) → 2 ≤ n → AreRowsBelowOne (radiosity n room).patches
+  pub loose_rows : (n : ℕ) → 2 ≤ n → AreRowsBelowOne (loose_radiosity n room).patches
+  pub order : (g : ℕ) → g < length values → ForExactValues room (λ x. InOrder (x.value g))
+  pub loose_order : (g : ℕ) → g < length values → ForLooseValues room (λ x. InOrder (x.value g))

@@ -1,8 +1,8 @@
 pub mod Values
 pub mod Whole
 pub mod Equations
-pub mod Lit
+pub mod Radiosity
 pub mod System
-mod LitTests
+mod RadiosityTests
 mod SystemTests
 mod ValuesTests

@@ -7,7 +7,7 @@ use Rattle.fx_base.proofs.Ratios.{ratio_num, ratio_den, ratio_le_ratio}
 use Rattle.fx_base.proofs.Sums.{sum_to_le}
 use Rattle.interval_system.specs.Whole.{IsBelowOne, denominator, numerator}
 use Rattle.interval_system.specs.Equations.{SolvesEquations, RowsBelowOne, product_to, common_denominator, over, solution, IsOver}
-use Rattle.radiosity_solve.specs.Laws.{OneFractionSolution, FractionComparison}
+use Rattle.radiosity_solve.specs.Laws.{OneFractionSolution, OneLight, FractionComparison}
 use Rattle.radiosity_solve.proofs.Pairs.{SolvesPlainly, none, plain-solves}
 use Rattle.radiosity_solve.proofs.Elimination.{eliminated}
 use Rattle.radiosity_solve.proofs.Unique.{one_solution, compared}
@@ -83,6 +83,19 @@ has_one_fraction_solution n k d b = record {
   where
     q : ℕ
     q = common_denominator n k d
+
+pub one_light : OneLight
+one_light s rows =
+    let low = has_one_fraction_solution s.size (λ i j. (s.coefficient i j).lo) (λ i. (s.direct i).lo) rows.lower in
+    let high = has_one_fraction_solution s.size (λ i j. (s.coefficient i j).hi) (λ i. (s.direct i).hi) rows.upper in
+    record {
+      light = record {
+        lower = solution s.size (λ i j. (s.coefficient i j).lo) (λ i. (s.direct i).lo);
+        upper = solution s.size (λ i j. (s.coefficient i j).hi) (λ i. (s.direct i).hi);
+      };
+      is = record { lower = low.solves; upper = high.solves };
+      alone = λ other is i l. (low.alone other.lower is.lower i l, high.alone other.upper is.upper i l);
+    }
 
 -- the elimination over any one denominator gives the solution
 pub solution-over : (n q : ℕ) (kk : ℕ → ℕ → ℕ) (ee : ℕ → ℕ) (k : ℕ → ℕ → Fraction) (d : ℕ → Fraction) → IsOver n q kk ee k d → RowsBelowOne n k

@@ -5,6 +5,7 @@ use Rattle.fx_base.specs.Fraction.{Fraction, ◌≤ᶠ◌, ◌≈ᶠ◌}
 use Rattle.fx_base.specs.Units.{natural}
 use Rattle.interval_system.specs.Whole.{IsBelowOne, IsSolution, denominator, numerator}
 use Rattle.interval_system.specs.Equations.{SolvesEquations, RowsBelowOne, solution}
+use Rattle.interval_system.specs.Radiosity.{Enclosures, AreRowsBelowOne, HasOneLight}
 
 -- ---- in whole numbers
 
@@ -41,6 +42,10 @@ pub record HasOneFractionSolution (n : ℕ) (k : ℕ → ℕ → Fraction) (d : 
 
 abbrev pub OneFractionSolution : Type 0
 OneFractionSolution = (n : ℕ) (k : ℕ → ℕ → Fraction) (d : ℕ → Fraction) → RowsBelowOne n k → HasOneFractionSolution n k d
+
+-- where every row sum is below one, the equations of the lower ends and those of the upper ends have one solution each
+abbrev pub OneLight : Type 0
+OneLight = (s : Enclosures) → AreRowsBelowOne s → HasOneLight s
 
 -- the row sums of the smaller coefficients are then below one too
 abbrev pub FractionComparison : Type 0

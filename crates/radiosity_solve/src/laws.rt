@@ -1,5 +1,5 @@
 //! The laws of the equations and of their bounds: a law is the contract of a function that does nothing.
-ghost use Rattle.radiosity_solve.specs.Laws.{OneSolution, Comparison, OneFractionSolution, FractionComparison};
+ghost use Rattle.radiosity_solve.specs.Laws.{OneSolution, Comparison, OneFractionSolution, OneLight, FractionComparison};
 ghost use Rattle.radiosity_solve.specs.Composition.{LowerIsBelow, UpperIsAbove, LowerIsWithin, UpperIsWithin, RowsAreBelowOne, ShownClaimHolds};
 
 /// Equations with row sums below one have exactly one solution, of either sign; it isn't negative where the light isn't.
@@ -15,6 +15,12 @@ pub fn comparison()
 /// The same in fractions, each with a denominator of its own: the elimination gives the one solution.
 pub fn one_fraction_solution()
     ensures { OneFractionSolution }
+{}
+
+/// Where the coefficients of each patch add up to less than one, there is one light by the lower ends and one by the upper ends, and
+/// none beside.
+pub fn one_light()
+    ensures { OneLight }
 {}
 
 /// The solution in fractions rises with the coefficients and the light.

@@ -8,21 +8,21 @@ use Rattle.fx_base.proofs.Order.{le_refl_f, le_trans_f, lt_le_trans_f, add_le_f}
 use Rattle.fx_base.proofs.Ratios.{ratio_num, ratio_den, ratio_le, le_ratio, le_ratio_back}
 use Rattle.interval_system.specs.Whole.{total}
 use Rattle.interval_system.specs.System.{high_weight, upper_total}
-use Rattle.scene_system.specs.RowSums.{row_sum, slack, most_of_row, in_thousandths, HeavyHasCause, MildIsServed, NoneIsShownHeavy}
+use Rattle.scene_system.specs.RowSums.{row_sum, slack, greatest_row_sum, in_thousandths, HeavyHasCause, MildIsServed, NoneIsShownHeavy}
 use Rattle.scene_system.specs.Scene.{patch_count}
 use Rattle.scene_system.proofs.Rows.{rows_are, row-total, row_below, row_above, light_row}
 
 -- ---- sums of ticks against 255/256
 
-light_most : (t : ℕ) → t ≤ 68451041280 → ticks t ≤ᶠ most_of_row
+light_most : (t : ℕ) → t ≤ 68451041280 → ticks t ≤ᶠ greatest_row_sum
 unfolding ticks
 light_most t h = le_ratio 255 256 (ticks t) (lit< tt) (omega arith)
 
-most_heavy : (t : ℕ) → 68451041280 < t → most_of_row <ᶠ ticks t
+most_heavy : (t : ℕ) → 68451041280 < t → greatest_row_sum <ᶠ ticks t
 unfolding ticks ratio
 most_heavy t h = record { cross = omega arith }
 
-most_light : (t : ℕ) → ticks t ≤ᶠ most_of_row → t ≤ 68451041280
+most_light : (t : ℕ) → ticks t ≤ᶠ greatest_row_sum → t ≤ 68451041280
 unfolding ticks
 most_light t h = let g = le_ratio_back 255 256 (ticks t) (lit< tt) h in omega arith
 

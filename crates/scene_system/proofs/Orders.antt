@@ -24,7 +24,7 @@ use Rattle.patch_mesh.specs.Bounds.{IsPatchIn, largest_room}
 use Rattle.patch_mesh.specs.Patches.{patches}
 use Rattle.patch_mesh.proofs.Fits.{patches_reach}
 use Rattle.form_factor.proofs.Coefficients.{nests}
-use Rattle.scene_system.specs.Laws.{LitIsInOrder}
+use Rattle.scene_system.specs.Laws.{RadiosityIsInOrder}
 use Rattle.scene_system.specs.Light.{falloff, fallen, share_of, share, loose_share, intensity, loose_intensity, loosened, lamp_place, part_count, is_clear, lamp_light, loose_lamp_light, light_of_first, loose_light_of_first, direct_light, loose_direct_light, no_lamp}
 use Rattle.scene_system.specs.Scene.{patch_count, patch_of, patch_place, patch_face, no_patch, task_point_place, coefficient_at, loose_coefficient_at}
 
@@ -147,7 +147,7 @@ loose_coefficient_order n room p face j accepted l = outward_order (half_power 3
 
 -- ---- the room
 
-pub in_order : LitIsInOrder
+pub in_order : RadiosityIsInOrder
 in_order n room accepted = (
   record {
     coefficient = λ i j k l. coefficient_order n room (patch_place room i) (patch_face room i) j accepted l;

@@ -4,11 +4,13 @@ use Rattle.std.proofs.lemmas.List.Elements.{All-get_or}
 use Rattle.std.proofs.lemmas.List.Sums.{sum_by-cons}
 use Rattle.fx_base.specs.declared.Weight.{Weight}
 use Rattle.fx_base.specs.Fraction.{Fraction, ◌≤ᶠ◌, ◌<ᶠ◌, ◌+ᶠ◌, ◌*ᶠ◌, ratio, whole, half_power, sum_to}
-use Rattle.fx_base.specs.Interval.{LiesIn}
+use Rattle.fx_base.specs.Interval.{InOrder, LiesIn}
 use Rattle.fx_base.specs.Units.{ticks}
 use Rattle.fx_base.proofs.Order.{le_refl_f, le_trans_f, le_lt_trans_f, add_le_f, add_right_f, mul_le_f, zero_le_f}
 use Rattle.fx_base.proofs.Ratios.{whole_le}
 use Rattle.fx_base.proofs.Sums.{sum_to_le, sum_to_add, sum_to_most, ticks_le, ticks_split, ticks_join, ticks_whole}
+use Rattle.interval_system.specs.Radiosity.{Enclosures, AreRowsBelowOne}
+use Rattle.interval_system.specs.Equations.{RowsBelowOne}
 use Rattle.interval_system.specs.Whole.{total}
 use Rattle.interval_system.specs.System.{IsSystem, NoneHeavy, no_weight, weight_at, high_weight, upper_total}
 use Rattle.room_layout.specs.Accepted.{IsAccepted}
@@ -19,9 +21,9 @@ use Rattle.room_layout.specs.declared.room.Room.{Room}
 use Rattle.form_factor.proofs.Coefficients.{narrows, close_of}
 use Rattle.scene_system.specs.Assembled.{Numbers, point_weight, HasNearWeights, IsWellFormed, IsSceneOf, IsWeightAt}
 use Rattle.scene_system.specs.RowSums.{row_sum, slack, RowsStayBelowOne}
-use Rattle.scene_system.specs.Scene.{patch_count, patch_of, patch_place, patch_face, task_point_place, loose_coefficient_at, lit, loose}
+use Rattle.scene_system.specs.Scene.{patch_count, patch_of, patch_place, patch_face, task_point_place, loose_coefficient_at, radiosity, loose_radiosity}
 use Rattle.scene_system.specs.Light.{is_clear}
-use Rattle.scene_system.proofs.Orders.{patch_reaches}
+use Rattle.scene_system.proofs.Orders.{patch_reaches, in_order}
 
 -- ---- sums of ticks and of fractions
 
@@ -96,14 +98,14 @@ unfolding ticks half_power
 five_ticks = record { cross = lit≤ tt }
 
 pub weight_below : (n : ℕ) (room : Room) (s : Numbers) (i j : ℕ) → IsSceneOf room s → i < patch_count room → j < patch_count room
-    → ticks (high_weight s.system i j) ≤ᶠ (((lit n room).patches.coefficient i j).hi +ᶠ half_power 32)
+    → ticks (high_weight s.system i j) ≤ᶠ (((radiosity n room).patches.coefficient i j).hi +ᶠ half_power 32)
 weight_below n room s i j scene k l =
     let w : IsWeightAt room (patch_place room i) (patch_face room i) j (weight_at s.system i j) = scene.weights i j k l in
     le_trans_f (ticks_le (weight_at s.system i j).hi ((weight_at s.system i j).lo + 5) w.narrow)
     (le_trans_f (ticks_split (weight_at s.system i j).lo 5) (add_le_f (w.low n) five_ticks))
 
 pub weight_above : (n : ℕ) (room : Room) (s : Numbers) (i j : ℕ) → IsSceneOf room s → i < patch_count room → j < patch_count room
-    → ((lit n room).patches.coefficient i j).lo ≤ᶠ ticks (high_weight s.system i j)
+    → ((radiosity n room).patches.coefficient i j).lo ≤ᶠ ticks (high_weight s.system i j)
 weight_above n room s i j scene k l = (scene.weights i j k l).high n
 
 -- a weight lies within the loose coefficient
@@ -123,14 +125,14 @@ pub row_below : (n : ℕ) (room : Room) (s : Numbers) (i : ℕ) → IsSceneOf ro
     → ticks (total (patch_count room) (high_weight s.system i)) ≤ᶠ ((row_sum n room i).hi +ᶠ slack room)
 row_below n room s i scene k =
     le_trans_f
-    (ticks_total_below (patch_count room) (high_weight s.system i) (λ j. ((lit n room).patches.coefficient i j).hi +ᶠ half_power 32)
+    (ticks_total_below (patch_count room) (high_weight s.system i) (λ j. ((radiosity n room).patches.coefficient i j).hi +ᶠ half_power 32)
     (λ j l. weight_below n room s i j scene k l))
-    (sum_to_more (patch_count room) (half_power 32) (λ j. ((lit n room).patches.coefficient i j).hi))
+    (sum_to_more (patch_count room) (half_power 32) (λ j. ((radiosity n room).patches.coefficient i j).hi))
 
 pub row_above : (n : ℕ) (room : Room) (s : Numbers) (i : ℕ) → IsSceneOf room s → i < patch_count room
     → (row_sum n room i).lo ≤ᶠ ticks (total (patch_count room) (high_weight s.system i))
 row_above n room s i scene k =
-    ticks_total_above (patch_count room) (high_weight s.system i) (λ j. ((lit n room).patches.coefficient i j).lo)
+    ticks_total_above (patch_count room) (high_weight s.system i) (λ j. ((radiosity n room).patches.coefficient i j).lo)
     (λ j l. weight_above n room s i j scene k l)
 
 -- ---- upper ends from depth 2
@@ -144,7 +146,7 @@ unfolding ratio half_power ◌+ᶠ◌
 loose_below_millionth = record { cross = lit≤ tt }
 
 pub upper_close : (n : ℕ) (room : Room) (s : Numbers) (i j : ℕ) → IsAccepted room → IsSceneOf room s → 2 ≤ n → i < patch_count room → j < patch_count room
-    → ((lit n room).patches.coefficient i j).hi ≤ᶠ (ticks (high_weight s.system i j) +ᶠ ratio 1 2400000)
+    → ((radiosity n room).patches.coefficient i j).hi ≤ᶠ (ticks (high_weight s.system i j) +ᶠ ratio 1 2400000)
 upper_close n room s i j accepted scene deep k l =
     let patch = patch_reaches room j accepted l in
     le_trans_f
@@ -163,16 +165,25 @@ light_row room s formed scene none i k =
     let light : upper_total (get_or s.system.rows i []) ≤ 68451041280 = All-get_or (λ row. upper_total row ≤ 68451041280) s.system.rows i [] (omega arith) none in
     omega (arith, light, total-at-most (λ (w : Weight). w.hi) (get_or s.system.rows i []) no_weight (patch_count room) refl)
 
+-- where the upper ends stay below one, the lower ends do
+both_below : (s : Enclosures) → ((i j : ℕ) → i < s.size → j < s.size → InOrder (s.coefficient i j)) → RowsBelowOne s.size (λ i j. (s.coefficient i j).hi) → AreRowsBelowOne s
+both_below s order upper = record {
+  lower = record {
+    row = λ i l. le_lt_trans_f (sum_to_le s.size (λ j. (s.coefficient i j).lo) (λ j. (s.coefficient i j).hi) (λ j m. order i j l m)) (upper.row i l);
+  };
+  upper = upper;
+}
+
 pub rows_below : RowsStayBelowOne
 rows_below room s n accepted formed scene none deep = (
-  record {
-    row = λ i k. sum_below_one (patch_count room) (high_weight s.system i) (λ j. ((lit n room).patches.coefficient i j).hi)
+  both_below (radiosity n room).patches ((in_order n room accepted).0).coefficient (record {
+    row = λ i k. sum_below_one (patch_count room) (high_weight s.system i) (λ j. ((radiosity n room).patches.coefficient i j).hi)
         (few_patches room s formed scene) (light_row room s formed scene none i k)
         (λ j l. le_trans_f (upper_close n room s i j accepted scene deep k l) (add_le_f (le_refl_f (ticks (high_weight s.system i j))) fine_below_millionth));
-  },
-  record {
-    row = λ i k. sum_below_one (patch_count room) (high_weight s.system i) (λ j. ((loose n room).patches.coefficient i j).hi)
+  }),
+  both_below (loose_radiosity n room).patches ((in_order n room accepted).1).coefficient (record {
+    row = λ i k. sum_below_one (patch_count room) (high_weight s.system i) (λ j. ((loose_radiosity n room).patches.coefficient i j).hi)
         (few_patches room s formed scene) (light_row room s formed scene none i k)
-        (λ j l. loose_close ((lit n room).patches.coefficient i j).hi (ticks (high_weight s.system i j)) (upper_close n room s i j accepted scene deep k l));
-  },
+        (λ j l. loose_close ((radiosity n room).patches.coefficient i j).hi (ticks (high_weight s.system i j)) (upper_close n room s i j accepted scene deep k l));
+  }),
 )

@@ -1,18 +1,18 @@
 -- What holds of the enclosures of a room at every depth.
 use Rattle.std.specs.Prelude.{ℕ, ◌<◌}
 use Rattle.fx_base.specs.Interval.{InOrder}
-use Rattle.interval_system.specs.Lit.{Lit}
+use Rattle.interval_system.specs.Radiosity.{Radiosity}
 use Rattle.room_layout.specs.Accepted.{IsAccepted}
 use Rattle.room_layout.specs.declared.room.Room.{Room}
-use Rattle.scene_system.specs.Scene.{lit, loose}
+use Rattle.scene_system.specs.Scene.{radiosity, loose_radiosity}
 
 -- no coefficient and no direct light has a lower end above its upper end
-pub record HasEndsInOrder (s : Lit) : Type 0 where
+pub record HasEndsInOrder (s : Radiosity) : Type 0 where
   pub coefficient : (i j : ℕ) → i < s.patches.size → j < s.patches.size → InOrder (s.patches.coefficient i j)
   pub direct : (i : ℕ) → i < s.patches.size → InOrder (s.patches.direct i)
   pub point_coefficient : (g j : ℕ) → g < s.points → j < s.patches.size → InOrder (s.coefficient g j)
   pub point_direct : (g : ℕ) → g < s.points → InOrder (s.direct g)
 
 -- at every depth, in the exact and in the loose form
-abbrev pub LitIsInOrder : Type 0
-LitIsInOrder = (n : ℕ) (room : Room) → IsAccepted room → HasEndsInOrder (lit n room) × HasEndsInOrder (loose n room)
+abbrev pub RadiosityIsInOrder : Type 0
+RadiosityIsInOrder = (n : ℕ) (room : Room) → IsAccepted room → HasEndsInOrder (radiosity n room) × HasEndsInOrder (loose_radiosity n room)

@@ -12,7 +12,7 @@ use Rattle.patch_mesh.specs.TaskPoints.{task_points}
 use Rattle.patch_mesh.specs.declared.patch.Patch.{Patch}
 use Rattle.patch_mesh.specs.declared.patch.TaskPoint.{TaskPoint}
 use Rattle.form_factor.specs.Coefficient.{coefficient, loose_coefficient}
-use Rattle.interval_system.specs.Lit.{Lit}
+use Rattle.interval_system.specs.Radiosity.{Radiosity}
 use Rattle.scene_system.specs.Light.{is_clear, direct_light, loose_direct_light}
 
 -- ---- patches and task points by their numbers
@@ -51,8 +51,8 @@ loose_coefficient_at n room p face j = loose_coefficient n p face (patch_of room
 
 -- ---- the room at depth n
 
-abbrev pub lit : ℕ → Room → Lit
-lit n room = record {
+abbrev pub radiosity : ℕ → Room → Radiosity
+radiosity n room = record {
   patches = record {
     size = patch_count room;
     coefficient = λ i j. coefficient_at n room (patch_place room i) (patch_face room i) j;
@@ -66,8 +66,8 @@ lit n room = record {
 }
 
 -- the same, wider by stated amounts
-abbrev pub loose : ℕ → Room → Lit
-loose n room = record {
+abbrev pub loose_radiosity : ℕ → Room → Radiosity
+loose_radiosity n room = record {
   patches = record {
     size = patch_count room;
     coefficient = λ i j. loose_coefficient_at n room (patch_place room i) (patch_face room i) j;

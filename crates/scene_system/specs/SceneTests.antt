@@ -20,7 +20,7 @@ use Rattle.patch_mesh.specs.TaskPoints.{task_point, row_points, task_points}
 use Rattle.patch_mesh.specs.TaskPoints as points
 use Rattle.form_factor.specs.Coefficient.{kernel, fronts, coefficient}
 use Rattle.scene_system.specs.Light.{lamp_place, falloff, share_of, share, loosened, loose_intensity, loose_share, is_clear, lamp_light, loose_lamp_light, light_of_first, loose_light_of_first, direct_light, loose_direct_light}
-use Rattle.scene_system.specs.Scene.{patch_count, patch_place, patch_face, task_point_place, lit, loose}
+use Rattle.scene_system.specs.Scene.{patch_count, patch_place, patch_face, task_point_place, radiosity, loose_radiosity}
 use Rattle.scene_system.specs.Assembled.{open_points}
 use Rattle.scene_system.specs.Causes.{candela_of, total_candela, IsCause, IsWithinLimits}
 use Rattle.scene_system.specs.RowSums.{row_sum, slack, in_thousandths}
@@ -249,39 +249,39 @@ unfolding of_mesh
 middle_of_the_floor = refl
 
 -- one metre before the lamp of 200 cd: 200 lux on the floor and at its task point, and 2,000 is a whole root
-light_of_the_floor : ((lit 0 cube).patches.direct 0).hi ≈ᶠ whole 200
+light_of_the_floor : ((radiosity 0 cube).patches.direct 0).hi ≈ᶠ whole 200
 unfolding of_light of_mesh
 light_of_the_floor = record { cross = refl }
 
-light_of_the_point : ((lit 0 cube).direct 0).hi ≈ᶠ whole 200
+light_of_the_point : ((radiosity 0 cube).direct 0).hi ≈ᶠ whole 200
 unfolding of_light of_mesh
 light_of_the_point = record { cross = refl }
 
-nothing_to_itself : ((lit 0 cube).patches.coefficient 0 0).hi.num ≡ 0
+nothing_to_itself : ((radiosity 0 cube).patches.coefficient 0 0).hi.num ≡ 0
 unfolding of_light of_mesh of_weights
 nothing_to_itself = refl
 
-loose_to_itself : ((loose 0 cube).patches.coefficient 0 0).hi ≈ᶠ half_power 32
+loose_to_itself : ((loose_radiosity 0 cube).patches.coefficient 0 0).hi ≈ᶠ half_power 32
 unfolding of_light of_mesh of_weights
 loose_to_itself = record { cross = refl }
 
 -- patch j lights patch i by the reflectance of j: the floor has light of the bright ceiling, and the ceiling none of the dark floor
-floor_of_the_ceiling : nat_lt 0 ((lit 0 bright_ceiling).patches.coefficient 0 1).lo.num ≡ true
+floor_of_the_ceiling : nat_lt 0 ((radiosity 0 bright_ceiling).patches.coefficient 0 1).lo.num ≡ true
 unfolding of_light of_mesh of_weights
 floor_of_the_ceiling = refl
 
-ceiling_of_the_floor : ((lit 0 bright_ceiling).patches.coefficient 1 0).hi.num ≡ 0
+ceiling_of_the_floor : ((radiosity 0 bright_ceiling).patches.coefficient 1 0).hi.num ≡ 0
 unfolding of_light of_mesh of_weights
 ceiling_of_the_floor = refl
 
 -- floor and ceiling at depth 0, where pi is 3.140596.. to 3.183263..: 1 / (2 (pi + 1)) from 0.1195239 to 0.1207556
-floor_and_ceiling : (at_most (ratio 119523 1000000) ((lit 0 cube).patches.coefficient 0 1).lo && at_most ((lit 0 cube).patches.coefficient 0 1).lo (ratio 119524 1000000)
-    && at_most (ratio 120755 1000000) ((lit 0 cube).patches.coefficient 0 1).hi && at_most ((lit 0 cube).patches.coefficient 0 1).hi (ratio 120756 1000000)) ≡ true
+floor_and_ceiling : (at_most (ratio 119523 1000000) ((radiosity 0 cube).patches.coefficient 0 1).lo && at_most ((radiosity 0 cube).patches.coefficient 0 1).lo (ratio 119524 1000000)
+    && at_most (ratio 120755 1000000) ((radiosity 0 cube).patches.coefficient 0 1).hi && at_most ((radiosity 0 cube).patches.coefficient 0 1).hi (ratio 120756 1000000)) ≡ true
 unfolding of_light of_mesh of_weights
 floor_and_ceiling = refl
 
 -- the task point on the floor's centre has the floor's coefficients
-point_and_ceiling : (at_most (ratio 119523 1000000) ((lit 0 cube).coefficient 0 1).lo && at_most ((lit 0 cube).coefficient 0 1).hi (ratio 120756 1000000)) ≡ true
+point_and_ceiling : (at_most (ratio 119523 1000000) ((radiosity 0 cube).coefficient 0 1).lo && at_most ((radiosity 0 cube).coefficient 0 1).hi (ratio 120756 1000000)) ≡ true
 unfolding of_light of_mesh of_weights
 point_and_ceiling = refl
 

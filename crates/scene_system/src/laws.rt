@@ -1,11 +1,11 @@
 //! What holds of the definitions in `specs/`, each as the contract of a function that does nothing.
-ghost use Rattle.scene_system.specs.Laws.{LitIsInOrder};
+ghost use Rattle.scene_system.specs.Laws.{RadiosityIsInOrder};
 ghost use Rattle.scene_system.specs.RowSums.{HeavyHasCause, MildIsServed, NoneIsShownHeavy, RowsStayBelowOne};
 
 /// The enclosures of the coefficients and of the direct light of an accepted room aren't empty, at any depth, in the exact and in the
 /// loose form.
-pub fn lit_is_in_order()
-    ensures { LitIsInOrder }
+pub fn radiosity_is_in_order()
+    ensures { RadiosityIsInOrder }
 {}
 
 /// Where a row of the scene is heavy, that row's sum of coefficients is above 255/256 at each depth from 2, give or take 2^-32 for

@@ -1,15 +1,15 @@
--- Equations and lit scenes, computed. The values are those of the equations solved by hand, where nothing else is said.
+-- Equations, and values at points, computed. The values are those of the equations solved by hand, where nothing else is said.
 use Rattle.std.specs.Prelude.{ℕ, ◌≡◌, ◌*◌, ◌/◌, ◌==◌, ◌&&◌, true, false, refl, if◌then◌else◌}
 use Rattle.std.proofs.Common.{lit<}
 use Rattle.fx_base.specs.Fraction.{Fraction, ratio, whole, at_most, ◌+ᶠ◌, ◌-ᶠ◌, ◌*ᶠ◌, ◌/ᶠ◌, sum_to}
 use Rattle.fx_base.specs.Interval.{exact}
 use Rattle.interval_system.specs.Whole.{reduced, reduced_light, denominator, numerator}
 use Rattle.interval_system.specs.Equations.{SolvesEquations, RowsBelowOne, IsOver, value_by, product_to, common_denominator, over, solution}
-use Rattle.interval_system.specs.Lit.{Lit, lower_light, upper_light, value, grid}
+use Rattle.interval_system.specs.Radiosity.{Radiosity, Light, IsLightOf, AreRowsBelowOne, value, values}
 use Rattle.interval_system.specs.Values.{open_count, open_sum, mean, average}
 
 unfoldable all_of_it : Unit {0}
-unfolding ratio whole ◌+ᶠ◌ ◌-ᶠ◌ ◌*ᶠ◌ ◌/ᶠ◌ sum_to reduced reduced_light denominator numerator value_by product_to common_denominator over solution lower_light upper_light value grid open_count open_sum mean average
+unfolding ratio whole ◌+ᶠ◌ ◌-ᶠ◌ ◌*ᶠ◌ ◌/ᶠ◌ sum_to reduced reduced_light denominator numerator value_by product_to common_denominator over solution value values open_count open_sum mean average
 all_of_it = tt
 
 -- h0 = 1 + h1 / 2 and h1 = h0 / 4: h0 = 8/7, h1 = 2/7
@@ -38,7 +38,7 @@ cube_lit = refl
 
 -- one patch that sends itself a half and has a direct light of 1 to 2, so 2 to 4, moved by 1; and a point with a direct light of 3
 -- that it lights by a half, beside a covered one: 3.5 to 5.5
-scene : Lit
+scene : Radiosity
 unfolding all_of_it
 scene = record {
   patches = record { size = 1; coefficient = λ i j. exact (ratio 1 2); direct = λ i. record { lo = whole 1; hi = whole 2 } };
@@ -49,17 +49,30 @@ scene = record {
   move = whole 1;
 }
 
-point_low : (value scene 1).lo.num * 2 ≡ 7 * (value scene 1).lo.den
+-- 1 + 2 / 2 is 2, and 2 + 4 / 2 is 4
+light : Light
+unfolding all_of_it
+light = record { lower = λ i. whole 2; upper = λ i. whole 4 }
+
+light_is : IsLightOf scene.patches light
+unfolding all_of_it scene light
+light_is = record { lower = record { row = λ i l. record { cross = refl } }; upper = record { row = λ i l. record { cross = refl } } }
+
+rows_are_below_one : AreRowsBelowOne scene.patches
 unfolding all_of_it scene
+rows_are_below_one = record { lower = record { row = λ i l. record { cross = lit< tt } }; upper = record { row = λ i l. record { cross = lit< tt } } }
+
+point_low : (value scene light 1).lo.num * 2 ≡ 7 * (value scene light 1).lo.den
+unfolding all_of_it scene light
 point_low = refl
 
-point_high : (value scene 1).hi.num * 2 ≡ 11 * (value scene 1).hi.den
-unfolding all_of_it scene
+point_high : (value scene light 1).hi.num * 2 ≡ 11 * (value scene light 1).hi.den
+unfolding all_of_it scene light
 point_high = refl
 
 -- the average is over the point that isn't covered
-average_high : (average (grid scene)).hi.num * 2 ≡ 11 * (average (grid scene)).hi.den
-unfolding all_of_it scene
+average_high : (average (values scene light)).hi.num * 2 ≡ 11 * (average (values scene light)).hi.den
+unfolding all_of_it scene light
 average_high = refl
 
 -- three patches that all send to all. The solution is by Cramer's rule in Python's fractions:

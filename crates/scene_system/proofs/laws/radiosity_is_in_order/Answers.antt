@@ -1,5 +1,5 @@
 use Rattle.scene_system.proofs.Orders.{in_order}
-use Rattle.scene_system.proofs.laws.lit_is_in_order.Goals as goal
+use Rattle.scene_system.proofs.laws.radiosity_is_in_order.Goals as goal
 
 pub returns : goal.returns
 returns c = in_order
