@@ -14,7 +14,7 @@ use Rattle.interval_system.specs.Radiosity.{Light, IsLightOf, values}
 use Rattle.interval_system.specs.Values.{average, uniformity}
 use Rattle.room_layout.specs.declared.room.Room.{Room}
 use Rattle.scene_system.specs.Scene.{task_point_of, radiosity, loose_radiosity}
-use Rattle.grid_report.specs.Headline.{least_end, IsInOrder, Fits, HaveOneSolution, MeetsValues, IsNarrow, IsRight}
+use Rattle.grid_report.specs.Headline.{least_end, IsInOrder, Fits, MeetsValues, IsNarrow, IsRight}
 use Rattle.grid_report.specs.RoomValues.{ForExactValues, ForLooseValues}
 use Rattle.grid_report.specs.Printed.{Printed, Report, said}
 use Rattle.grid_report.specs.PointValues.{ArePoints}

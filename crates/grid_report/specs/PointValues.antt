@@ -3,7 +3,7 @@ use Rattle.std.specs.Prelude.{ℕ, ◌≡◌, ◌+◌, ◌*◌, ◌^◌, ◌<◌
 use Rattle.fx_base.specs.Interval.{Meets, LiesIn, InOrder, outward}
 use Rattle.fx_base.specs.Units.{natural, ticks, of_span}
 use Rattle.fx_base.specs.declared.Tick.{Tick}
-use Rattle.interval_system.specs.Radiosity.{Light, AreRowsBelowOne}
+use Rattle.interval_system.specs.Radiosity.{AreRowsBelowOne}
 use Rattle.interval_system.specs.System.{no_light}
 use Rattle.interval_system.specs.Whole.{total}
 use Rattle.radiosity_solve.specs.Bounds.{tick_at}

@@ -11,8 +11,12 @@ use Rattle.scene_system.specs.Causes.{IsCause, IsWithinLimits}
 use Rattle.scene_system.specs.RowSums.{IsMild}
 use Rattle.scene_system.specs.declared.fault.SceneFault.{SceneFault}
 use Rattle.scene_system.specs.declared.fault.SceneFault.TheVariants as scene_fault
-use Rattle.lux_core.specs.Answers.{Shelf, WereRead, IsAbsent, IsTooLong, IsSaidOf, HasNoScene, HasHeavyRow, IsRoomAnswer, IsFileAnswer, IsAnswer, CanAnswer, IsAble, longest_file}
-use Rattle.lux_core.specs.Commands.{question_of, room_name}
+use Rattle.lux_core.specs.Answers.{IsBytesAnswer, IsAbsent, IsTooLong, IsFileAnswer, IsAnswer, CanAnswer, IsAble}
+use Rattle.lux_core.specs.Commands.{question_of, file_name}
+use Rattle.lux_core.specs.RoomAnswers.{IsSaidOf, HasNoScene, HasHeavyRow, IsRoomAnswer, IsAbleOf, CanTell}
+use Rattle.lux_core.specs.Runs.{Run, WereRead, longest_file}
+use Rattle.lux_core.specs.declared.words.RoomQuestion.{RoomQuestion}
+use Rattle.lux_core.specs.declared.words.RoomQuestion.TheVariants as asks
 use Rattle.lux_core.specs.declared.words.Question.{Question}
 use Rattle.lux_core.specs.declared.words.Question.TheVariants as question
 use Rattle.lux_core.specs.declared.status.Status.{Status}
@@ -33,20 +37,20 @@ some_and (Some s) b P e h = subst P (some_of s b e) h
 same_question : (words : List (List ℕ)) (a b : Question) → question_of words ≡ Some a → question_of words ≡ Some b → a ≡ b
 same_question words a b e f = cc
 
-not_absent : (words : List (List ℕ)) (shelf : Shelf) (text : List ℕ) (c : CanAnswer words shelf.files) → IsAbsent shelf (room_name words) text → ⊥
-not_absent words shelf text c a =
-    let none : bytes_of (room_name words) c.told ≡ None = told_of shelf.files c.told (λ fs. bytes_of (room_name words) fs ≡ None) c.files_are a.told in
+not_absent : (words : List (List ℕ)) (r : Run) (text : List ℕ) (c : CanAnswer words r.files) → IsAbsent r (file_name words) text → ⊥
+not_absent words r text c a =
+    let none : bytes_of (file_name words) c.told ≡ None = told_of r.files c.told (λ fs. bytes_of (file_name words) fs ≡ None) c.files_are a.told in
     let found = c.found in absurd (cc)
 
-not_too_long : (words : List (List ℕ)) (shelf : Shelf) (text : List ℕ) (c : CanAnswer words shelf.files) → IsTooLong shelf (room_name words) text → ⊥
-not_too_long words shelf text c a =
-    let some = told_of shelf.files c.told (λ fs. IsSomeAnd (bytes_of (room_name words) fs) (λ bytes. longest_file < length bytes)) c.files_are a.told in
-    let long = some_and (bytes_of (room_name words) c.told) c.bytes (λ bytes. longest_file < length bytes) c.found some in
+not_too_long : (words : List (List ℕ)) (r : Run) (text : List ℕ) (c : CanAnswer words r.files) → IsTooLong r (file_name words) text → ⊥
+not_too_long words r text c a =
+    let some = told_of r.files c.told (λ fs. IsSomeAnd (bytes_of (file_name words) fs) (λ bytes. longest_file < length bytes)) c.files_are a.told in
+    let long = some_and (bytes_of (file_name words) c.told) c.bytes (λ bytes. longest_file < length bytes) c.found some in
     let few = c.few in absurd (omega arith)
 
-read_bytes : (words : List (List ℕ)) (shelf : Shelf) (bytes : List ℕ) (c : CanAnswer words shelf.files) → WereRead shelf (room_name words) bytes → bytes ≡ c.bytes
-read_bytes words shelf bytes c r =
-    let read : bytes_of (room_name words) c.told ≡ Some bytes = told_of shelf.files c.told (λ fs. bytes_of (room_name words) fs ≡ Some bytes) c.files_are r.told in
+read_bytes : (words : List (List ℕ)) (r : Run) (bytes : List ℕ) (c : CanAnswer words r.files) → WereRead r (file_name words) bytes → bytes ≡ c.bytes
+read_bytes words r bytes c were =
+    let read : bytes_of (file_name words) c.told ≡ Some bytes = told_of r.files c.told (λ fs. bytes_of (file_name words) fs ≡ Some bytes) c.files_are were.told in
     some_of bytes c.bytes (sym read ∙ c.found)
 
 -- a room within its limits has a scene
@@ -66,17 +70,17 @@ less_than_itself a b less most = let l = (lt_le_trans_f less most).cross in absu
 has_no_heavy_row : (room : Room) (text : List ℕ) → IsMild room → HasHeavyRow room text → ⊥
 has_no_heavy_row room text m h = less_than_itself _ _ (h.heavy.heavy m.depth m.deep) (m.row h.row h.heavy.in_room)
 
-not_refused_of : (asked : Question) (room : Room) (text : List ℕ) → IsAble asked room → IsSaidOf asked room status.Refused text → ⊥
-not_refused_of question.Report room text able (inl none) = has_scene room text able.0 none
-not_refused_of question.Report room text able (inr heavy) = has_no_heavy_row room text able.1 heavy
-not_refused_of (question.Sight p q) room text able said = absurd said
+not_refused_of : (asked : RoomQuestion) (room : Room) (text : List ℕ) → IsAbleOf asked room → IsSaidOf asked room status.Refused text → ⊥
+not_refused_of asks.Report room text able (inl none) = has_scene room text able.0 none
+not_refused_of asks.Report room text able (inr heavy) = has_no_heavy_row room text able.1 heavy
+not_refused_of (asks.Sight p q) room text able said = absurd said
 
-not_refused : (asked : Question) (bytes text : List ℕ) (room : Room) → built_room_of bytes ≡ Ok room → IsAble asked room → IsRoomAnswer asked bytes status.Refused text → ⊥
-not_refused asked bytes text room accepted able (inl f) = let r = f.refused in ok_err room f.fault (sym accepted ∙ r)
+room_not_refused : (asked : RoomQuestion) (bytes text : List ℕ) (room : Room) → built_room_of bytes ≡ Ok room → IsAbleOf asked room → IsRoomAnswer asked bytes status.Refused text → ⊥
+room_not_refused asked bytes text room accepted able (inl f) = let refused = f.refused in ok_err room f.fault (sym accepted ∙ refused)
   where
     ok_err : (a : Room) (e : RoomFault) → (let r : Result Room RoomFault = Ok a in r) ≡ Err e → ⊥
     ok_err a e h = cc
-not_refused asked bytes text room accepted able (inr b) =
+room_not_refused asked bytes text room accepted able (inr b) =
     let same : b.room ≡ room = ok_same b.room room (sym b.accepted ∙ accepted) in
     let P : Room → Type 0 = λ r. IsSaidOf asked r status.Refused text in
     not_refused_of asked room text able (subst P same b.said)
@@ -84,43 +88,37 @@ not_refused asked bytes text room accepted able (inr b) =
     ok_same : (a b : Room) → (let r : Result Room RoomFault = Ok a in r) ≡ Ok b → a ≡ b
     ok_same a b h = cc
 
-not_faulty : (words : List (List ℕ)) (shelf : Shelf) (asked : Question) (text : List ℕ) (c : CanAnswer words shelf.files) → asked ≡ c.asked
-    → IsFileAnswer asked shelf (room_name words) status.Refused text → ⊥
-not_faulty words shelf asked text c e (inl a) = not_absent words shelf text c a
-not_faulty words shelf asked text c e (inr (inl a)) = not_too_long words shelf text c a
-not_faulty words shelf asked text c e (inr (inr a)) =
-    let same = read_bytes words shelf a.bytes c a.read in
-    let P : List ℕ → Type 0 = λ b. IsRoomAnswer asked b status.Refused text in
-    let able : IsAble asked c.room = subst (λ (q : Question). IsAble q c.room) (sym e) c.able in
-    not_refused asked c.bytes text c.room c.accepted able (subst P same a.given)
+not_refused : (asked : Question) (bytes text : List ℕ) → IsAble asked bytes → IsBytesAnswer asked bytes status.Refused text → ⊥
+not_refused (question.Room asked) bytes text can given = room_not_refused asked bytes text can.room can.accepted can.able given
 
-pub done_where_possible : (words : List (List ℕ)) (shelf : Shelf) (given : Status) (text : List ℕ) → CanAnswer words shelf.files → Stood shelf.faults_before shelf.faults_now
-    → IsAnswer words shelf given text → given ≡ status.Done
-done_where_possible words shelf status.Done text c s a = refl
-done_where_possible words shelf status.Usage text c s a = absurd (none_some (sym a.none ∙ c.command))
+not_faulty : (words : List (List ℕ)) (r : Run) (asked : Question) (text : List ℕ) (c : CanAnswer words r.files) → asked ≡ c.asked
+    → IsFileAnswer asked r (file_name words) status.Refused text → ⊥
+not_faulty words r asked text c e (inl a) = not_absent words r text c a
+not_faulty words r asked text c e (inr (inl a)) = not_too_long words r text c a
+not_faulty words r asked text c e (inr (inr a)) =
+    let same = read_bytes words r a.bytes c a.read in
+    let P : List ℕ → Type 0 = λ b. IsBytesAnswer asked b status.Refused text in
+    let able : IsAble asked c.bytes = subst (λ (q : Question). IsAble q c.bytes) (sym e) c.able in
+    not_refused asked c.bytes text able (subst P same a.given)
+
+pub done_where_possible : (words : List (List ℕ)) (r : Run) (given : Status) (text : List ℕ) → CanAnswer words r.files → Stood r.faults.before r.faults.now
+    → IsAnswer words r given text → given ≡ status.Done
+done_where_possible words r status.Done text c s a = refl
+done_where_possible words r status.Usage text c s a = absurd (none_some (sym a.none ∙ c.command))
   where
     none_some : {T : Type 0} {t : T} → (let o : Option T = None in o) ≡ Some t → ⊥
     none_some h = cc
-done_where_possible words shelf status.Refused text c s a = absurd (not_faulty words shelf a.asked text c (same_question words a.asked c.asked a.command c.command) a.answer)
-done_where_possible words shelf status.ReadFault text c s a = let r = (a.answer).rose in absurd (omega (arith, r, s.0, s.1))
-done_where_possible words shelf status.WriteFault text c s a = absurd a
-done_where_possible words shelf status.Memory text c s a = absurd a
-done_where_possible words shelf status.Missed text c s a = absurd a
-done_where_possible words shelf status.Undecided text c s a = absurd a
-done_where_possible words shelf status.NotShown text c s a = absurd a
+done_where_possible words r status.Refused text c s a = absurd (not_faulty words r a.asked text c (same_question words a.asked c.asked a.command c.command) a.answer)
+done_where_possible words r status.ReadFault text c s a = let rose = (a.answer).rose in absurd (omega (arith, rose, s.0, s.1))
+done_where_possible words r _ text c s a = absurd a
 
 -- what a file gives is the answer to the words that name it
-pub answer_of_file : (words : List (List ℕ)) (shelf : Shelf) (asked : Question) (name : List ℕ) (given : Status) (text : List ℕ) → question_of words ≡ Some asked
-    → name ≡ room_name words → IsFileAnswer asked shelf name given text → IsAnswer words shelf given text
-answer_of_file words shelf asked name status.Done text q e a = record { asked = asked; command = q; answer = subst (λ (n : List ℕ). IsFileAnswer asked shelf n status.Done text) e a }
-answer_of_file words shelf asked name status.Refused text q e a = record { asked = asked; command = q; answer = subst (λ (n : List ℕ). IsFileAnswer asked shelf n status.Refused text) e a }
-answer_of_file words shelf asked name status.ReadFault text q e a = record { asked = asked; command = q; answer = subst (λ (n : List ℕ). IsFileAnswer asked shelf n status.ReadFault text) e a }
-answer_of_file words shelf asked name status.Usage text q e a = absurd a
-answer_of_file words shelf asked name status.WriteFault text q e a = absurd a
-answer_of_file words shelf asked name status.Memory text q e a = absurd a
-answer_of_file words shelf asked name status.Missed text q e a = absurd a
-answer_of_file words shelf asked name status.Undecided text q e a = absurd a
-answer_of_file words shelf asked name status.NotShown text q e a = absurd a
+pub answer_of_file : (words : List (List ℕ)) (r : Run) (asked : Question) (name : List ℕ) (given : Status) (text : List ℕ) → question_of words ≡ Some asked
+    → name ≡ file_name words → IsFileAnswer asked r name given text → IsAnswer words r given text
+answer_of_file words r asked name status.Done text q e a = record { asked = asked; command = q; answer = subst (λ (n : List ℕ). IsFileAnswer asked r n status.Done text) e a }
+answer_of_file words r asked name status.Refused text q e a = record { asked = asked; command = q; answer = subst (λ (n : List ℕ). IsFileAnswer asked r n status.Refused text) e a }
+answer_of_file words r asked name status.ReadFault text q e a = record { asked = asked; command = q; answer = subst (λ (n : List ℕ). IsFileAnswer asked r n status.ReadFault text) e a }
+answer_of_file words r asked name _ text q e a = absurd a
 
 fault_or_not : (s : Status) → (s ≡ status.WriteFault) ⊎ (s ≢ status.WriteFault)
 fault_or_not status.WriteFault = inl refl
@@ -133,11 +131,11 @@ fault_or_not status.Missed = inr (λ e. cc)
 fault_or_not status.Undecided = inr (λ e. cc)
 fault_or_not status.NotShown = inr (λ e. cc)
 
-pub complete_written : (words : List (List ℕ)) (shelf : Shelf) (given result : Status) (text : List ℕ) (before now : ℕ)
+pub complete_written : (words : List (List ℕ)) (r : Run) (given result : Status) (text : List ℕ) (before now : ℕ)
     → (result ≢ status.WriteFault → result ≡ given) → (result ≡ status.WriteFault → Rose before now) → Stood before now
-    → IsAnswer words shelf given text → CanAnswer words shelf.files → Stood shelf.faults_before shelf.faults_now
+    → IsAnswer words r given text → CanAnswer words r.files → Stood r.faults.before r.faults.now
     → (result ≡ status.Done) ⊎ (result ≡ status.Memory)
-complete_written words shelf given result text before now same rose out answer can stood = elim (fault_or_not result) [
-  | inl f ↦ absurd (let r = rose f in omega (arith, r, out.0, out.1))
-  | inr n ↦ inl (same n ∙ done_where_possible words shelf given text can stood answer)
+complete_written words r given result text before now same rose out answer can stood = elim (fault_or_not result) [
+  | inl f ↦ absurd (let h = rose f in omega (arith, h, out.0, out.1))
+  | inr n ↦ inl (same n ∙ done_where_possible words r given text can stood answer)
 ]

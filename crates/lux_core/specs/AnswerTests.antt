@@ -6,11 +6,14 @@ use Rattle.decimal_text.specs.Decimals.{thousandths}
 use Rattle.grid_report.specs.Printed.{line}
 use Rattle.room_layout.specs.Place.{point_of}
 use Rattle.scene_system.specs.declared.fault.SceneFault.TheVariants as scene_fault
-use Rattle.lux_core.specs.Answers.{Shelf, IsAnswer, IsUsage, scene_fault_text}
+use Rattle.lux_core.specs.Answers.{IsAnswer, IsUsage}
+use Rattle.lux_core.specs.RoomAnswers.{scene_fault_text}
+use Rattle.lux_core.specs.Runs.{Run, run}
 use Rattle.lux_core.specs.Codes.{status_code}
-use Rattle.lux_core.specs.Commands.{names_file, is_number, number_after, coordinate, question_of, room_name, usage_line}
+use Rattle.lux_core.specs.Commands.{names_file, is_number, number_after, coordinate, question_of, file_name, usage_line}
 use Rattle.lux_core.specs.declared.status.Status.TheVariants as status
-use Rattle.lux_core.specs.declared.words.Question.TheVariants.{Report, Sight}
+use Rattle.lux_core.specs.declared.words.Question.TheVariants as question
+use Rattle.lux_core.specs.declared.words.RoomQuestion.TheVariants.{Report, Sight}
 
 -- ---- numbers
 
@@ -76,14 +79,14 @@ report_words = codes "report" ∷ codes "room.toml" ∷ []
 abbrev sight_words : List ℕ → List (List ℕ)
 sight_words last = codes "sight" ∷ codes "room.toml" ∷ codes "0" ∷ codes "1500" ∷ codes "20" ∷ codes "3000" ∷ codes "7" ∷ last ∷ []
 
-asks_for_a_report : question_of report_words ≡ Some Report
+asks_for_a_report : question_of report_words ≡ Some (question.Room Report)
 asks_for_a_report = refl
 
-name_of_the_room : room_name report_words ≡ codes "room.toml"
+name_of_the_room : file_name report_words ≡ codes "room.toml"
 name_of_the_room = refl
 
 -- three words to a point, and a mm has two halves
-asks_for_sight : question_of (sight_words (codes "100000")) ≡ Some (Sight (point_of (record { x = 0; y = 3000; z = 40 })) (point_of (record { x = 6000; y = 14; z = 200000 })))
+asks_for_sight : question_of (sight_words (codes "100000")) ≡ Some (question.Room (Sight (point_of (record { x = 0; y = 3000; z = 40 })) (point_of (record { x = 6000; y = 14; z = 200000 }))))
 unfolding number_after
 asks_for_sight = refl
 
@@ -141,14 +144,14 @@ memory_code = refl
 -- ---- answers
 
 -- a shelf without files: one absence was counted, or one fault
-abbrev shelf_after : ℕ → ℕ → Shelf
-shelf_after absences faults = record { files = Some []; absences_before = 0; absences_now = absences; faults_before = 0; faults_now = faults; taken = 0 }
+abbrev run_of : ℕ → ℕ → Run
+run_of absences faults = run (Some []) 0 absences 0 faults 0
 
-usage_of_no_words : IsAnswer [] (shelf_after 0 0) status.Usage usage_line
+usage_of_no_words : IsAnswer [] (run_of 0 0) status.Usage usage_line
 usage_of_no_words = record { none = refl; text_is = refl }
 
-absent_room : IsAnswer report_words (shelf_after 1 0) status.Refused (codes "refused room.toml Absent\n")
-absent_room = record { asked = Report; command = refl; answer = inl (record { text_is = refl; rose = lit≤ tt; told = refl; taken = λ e. cc }) }
+absent_room : IsAnswer report_words (run_of 1 0) status.Refused (codes "refused room.toml Absent\n")
+absent_room = record { asked = question.Room Report; command = refl; answer = inl (record { text_is = refl; rose = lit≤ tt; told = refl; taken = λ e. cc }) }
 
-read_fault_of_a_room : IsAnswer report_words (shelf_after 0 1) status.ReadFault (codes "read fault room.toml\n")
-read_fault_of_a_room = record { asked = Report; command = refl; answer = record { text_is = refl; rose = lit≤ tt; taken = λ e. cc } }
+read_fault_of_a_room : IsAnswer report_words (run_of 0 1) status.ReadFault (codes "read fault room.toml\n")
+read_fault_of_a_room = record { asked = question.Room Report; command = refl; answer = record { text_is = refl; rose = lit≤ tt; taken = λ e. cc } }

@@ -3,8 +3,10 @@ use Rattle.std.specs.Prelude.{ℕ, Bool, false, not, ◌+◌, ◌-◌, ◌*◌, 
 use Rattle.std.specs.List.{list_all}
 use Rattle.std.specs.Str.{bytes_eq}
 use Rattle.room_layout.specs.Place.{point_of, place_of_size}
+use Rattle.room_layout.specs.declared.geometry.Point.{Point}
 use Rattle.lux_core.specs.declared.words.Question.{Question}
-use Rattle.lux_core.specs.declared.words.Question.TheVariants.{Report, Sight}
+use Rattle.lux_core.specs.declared.words.Question.TheVariants as question
+use Rattle.lux_core.specs.declared.words.RoomQuestion.TheVariants.{Report, Sight}
 
 -- ---- the names of files
 
@@ -50,29 +52,29 @@ abbrev pub coordinate_at : List (List ℕ) → ℕ → Option ℕ
 coordinate_at words k = coordinate (slice_index_or words k [])
 
 -- the place of three coordinates
-abbrev pub point_at : Option ℕ → Option ℕ → Option ℕ → Option Rattle.room_layout.specs.declared.geometry.Point.Point
+abbrev pub point_at : Option ℕ → Option ℕ → Option ℕ → Option Point
 point_at (Some x) (Some y) (Some z) = Some (point_of (place_of_size (record { x = x; y = y; z = z })))
 point_at (Some x) (Some y) None = None
 point_at (Some x) None z = None
 point_at None y z = None
 
 -- the question whether two points see each other
-abbrev pub sight_between : Option Rattle.room_layout.specs.declared.geometry.Point.Point → Option Rattle.room_layout.specs.declared.geometry.Point.Point → Option Question
-sight_between (Some p) (Some q) = Some (Sight p q)
+abbrev pub sight_between : Option Point → Option Point → Option Question
+sight_between (Some p) (Some q) = Some (question.Room (Sight p q))
 sight_between (Some p) None = None
 sight_between None q = None
 
--- what the words ask of a room
+-- what the words ask of a file
 abbrev pub question_of : List (List ℕ) → Option Question
 question_of words =
-    if asks_report words then Some Report
+    if asks_report words then Some (question.Room Report)
     else (if asks_sight words
     then sight_between (point_at (coordinate_at words 2) (coordinate_at words 3) (coordinate_at words 4)) (point_at (coordinate_at words 5) (coordinate_at words 6) (coordinate_at words 7))
     else None)
 
--- the name of the room's file
-abbrev pub room_name : List (List ℕ) → List ℕ
-room_name words = slice_index_or words 1 []
+-- the name of the file
+abbrev pub file_name : List (List ℕ) → List ℕ
+file_name words = slice_index_or words 1 []
 
 abbrev pub usage_line : List ℕ
 usage_line = codes "usage: lux report ROOM | grid ROOM | read FILE [SET] | sight ROOM X Y Z X Y Z | certify ROOM | check ROOM CLAIM | trial N\n"

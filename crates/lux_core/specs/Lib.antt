@@ -1,4 +1,6 @@
 pub mod Answers
+pub mod RoomAnswers
+pub mod Runs
 pub mod Codes
 pub mod Commands
 pub mod Questions

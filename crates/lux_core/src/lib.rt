@@ -1,8 +1,10 @@
 //! The planner: the words of the command line in, a status and one text out.
 #![tactic(auto)]
 
+mod file;
 mod reply;
 mod report;
+mod room;
 mod status;
 #[cfg(test)]
 mod tests;

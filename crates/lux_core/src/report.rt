@@ -1,4 +1,4 @@
-// The report of a room, and its refusals.
+//! The report of a room, and its refusals.
 ghost use Rattle.std.specs.Prelude.{◌≡◌, ◌≢◌, ◌++◌, codes, decimal, IfOk, string_bytes, All};
 ghost use Rattle.decimal_text.specs.Decimals.{thousandths};
 ghost use Rattle.grid_report.specs.Headline.{IsRight};
@@ -9,11 +9,12 @@ ghost use Rattle.room_layout.specs.Accepted.{IsAccepted, IsPlainLamp};
 ghost use Rattle.scene_system.specs.Assembled.{numbers, IsSceneOf, IsWellFormed};
 ghost use Rattle.scene_system.specs.Causes.{IsCause, IsWithinLimits};
 ghost use Rattle.scene_system.specs.RowSums.{in_thousandths};
-ghost use Rattle.lux_core.specs.Answers.{IsReportAnswer, scene_fault_text};
+ghost use Rattle.lux_core.specs.RoomAnswers.{IsReportAnswer, scene_fault_text};
 
 use crate::reply::Reply;
 use crate::status::Status;
 use decimal_text::milli_text;
+use fx_base::Memory;
 use grid_report::laws::{report_is_right, values_are_points};
 use grid_report::{points, report_text};
 use interval_system::Heavy;
@@ -21,10 +22,10 @@ use radiosity_solve::{Bounds, SolveFault, solve};
 use room_layout::Room;
 use scene_system::laws::{heavy_has_cause, none_is_shown_heavy};
 use scene_system::{Scene, SceneFault, assemble};
-use std::alloc::{AllocError, Global};
+use std::alloc::Global;
 
 /// The line of a room that has no scene.
-fn refused_scene(alloc: Global, fault: SceneFault) -> Result<String, AllocError>
+fn refused_scene(alloc: Global, fault: SceneFault) -> Result<String, Memory>
     ensures want { IfOk result (λ _. fault ≢ SceneFault.Memory) }
     ensures text { IfOk result (λ s. string_bytes s ≡ line (codes "refused scene " ++ scene_fault_text fault)) }
 {
@@ -41,18 +42,16 @@ fn refused_scene(alloc: Global, fault: SceneFault) -> Result<String, AllocError>
             let text = String::from_str(alloc, "refused scene 3 NoTaskPoint\n")?;
             Ok(text)
         }
-        SceneFault::Memory => Err(AllocError),
+        SceneFault::Memory => Err(Memory),
     }
 }
 
 /// The line of a room with a heavy row, and its sum in thousandths.
-fn refused_row(alloc: Global, heavy: Heavy) -> Result<String, AllocError>
+fn refused_row(alloc: Global, heavy: Heavy) -> Result<String, Memory>
     ensures { IfOk result (λ s. string_bytes s ≡ line (codes "refused rows 1 RowSum " ++ decimal heavy.row ++ codes " " ++ thousandths (in_thousandths heavy.upper))) }
 {
     let thousandths = (heavy.upper as u128 * 1000).div_ceil(68_719_476_736);
-    let Ok(sum) = milli_text(alloc, thousandths) else {
-        return Err(AllocError);
-    };
+    let sum = milli_text(alloc, thousandths)?;
     let row = heavy.row;
     let text = format!(in alloc; "refused rows 1 RowSum {row} {sum}\n")?;
     Ok(text)
@@ -64,7 +63,7 @@ fn text_of_report(
     room: &Room,
     scene: &Scene,
     bounds: &Bounds,
-) -> Result<String, AllocError>
+) -> Result<String, Memory>
     requires accepted { IsAccepted room.now }
     requires formed { IsWellFormed (numbers scene.now) }
     requires scene { IsSceneOf room.now (numbers scene.now) }
@@ -76,18 +75,15 @@ fn text_of_report(
 {
     values_are_points();
     report_is_right();
-    let Ok(values) = points(alloc, scene, bounds) else {
-        return Err(AllocError);
-    };
-    let Ok(text) = report_text(alloc, room.task.nx, values.as_slice()) else {
-        return Err(AllocError);
-    };
+    let values = points(alloc, scene, bounds)?;
+    let text = report_text(alloc, room.task.nx, values.as_slice())?;
     Ok(text)
 }
 
 /// The report of a scene of the room, or its refusal for a heavy row.
-fn reply_of_scene(alloc: Global, room: &Room, scene: &Scene) -> Result<Reply, AllocError>
+fn reply_of_scene(alloc: Global, room: &Room, scene: &Scene) -> Result<Reply, Memory>
     requires accepted { IsAccepted room.now }
+    requires even { All IsPlainLamp room.now.lamps }
     requires within { IsWithinLimits room.now }
     requires formed { IsWellFormed (numbers scene.now) }
     requires scene { IsSceneOf room.now (numbers scene.now) }
@@ -106,12 +102,12 @@ fn reply_of_scene(alloc: Global, room: &Room, scene: &Scene) -> Result<Reply, Al
             let status = Status::Refused;
             Ok(Reply { status, text })
         }
-        Err(SolveFault::Memory) => Err(AllocError),
+        Err(SolveFault::Memory) => Err(Memory),
     }
 }
 
 /// The report of a room, or why it has none.
-pub fn reply_of_report(alloc: Global, room: &Room) -> Result<Reply, AllocError>
+pub fn reply_of_report(alloc: Global, room: &Room) -> Result<Reply, Memory>
     requires accepted { IsAccepted room.now }
     requires plain { All IsPlainLamp room.now.lamps }
     ensures { IfOk result (λ r. IsReportAnswer room.now r.status (string_bytes r.text)) }

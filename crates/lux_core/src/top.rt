@@ -1,12 +1,13 @@
-// The top call: from the words to the text.
+//! The top call: from the words to the text.
 ghost use Rattle.std.specs.Prelude.{◌≡◌, ◌≢◌, ℕ, ◌⊎◌, List, map, string_bytes, None};
 ghost use Rattle.lux_io.specs.Files.{with_bytes, AddsPrefix, Rose, Stood};
 ghost use Rattle.lux_core.specs.Answers.{CanAnswer, IsAnswer};
 ghost use Rattle.lux_core.specs.Commands.{question_of};
+ghost use Rattle.lux_core.specs.Runs.{run};
 
-use crate::reply::reply_to;
+use crate::file::reply_to;
 use crate::status::Status;
-use crate::words::{USAGE, question_of, room_name};
+use crate::words::{USAGE, file_name, question_of};
 use lux_io::{Sink, put_all};
 use std::alloc::Global;
 
@@ -36,14 +37,16 @@ pub fn lux<S: lux_io::Shelf, O: Sink>(
     out: &mut O,
 ) -> Status
     // The text that was written is the answer of this status, with its cause.
-    ensures answered { result ≢ Status.WriteFault → result ≢ Status.Memory → (text : List ℕ) × (O.written out.new ≡ with_bytes (O.written out.old) text) × IsAnswer (map string_bytes words.now) (record { files = S.files shelf.old; absences_before = S.absences shelf.old; absences_now = S.absences shelf.new; faults_before = S.faults shelf.old; faults_now = S.faults shelf.new; taken = S.taken shelf.new }) result text }
+    ensures answered { result ≢ Status.WriteFault → result ≢ Status.Memory → (text : List ℕ) × (O.written out.new ≡ with_bytes (O.written out.old) text) × IsAnswer (map string_bytes words.now) (run (S.files shelf.old) (S.absences shelf.old) (S.absences shelf.new) (S.faults shelf.old) (S.faults shelf.new) (S.taken shelf.new)) result text }
     // Where the sink failed, a proper prefix was written of a text that would have been the answer.
-    ensures cut_short { result ≡ Status.WriteFault → (text : List ℕ) × (status : Status) × AddsPrefix (O.written out.old) (O.written out.new) text × IsAnswer (map string_bytes words.now) (record { files = S.files shelf.old; absences_before = S.absences shelf.old; absences_now = S.absences shelf.new; faults_before = S.faults shelf.old; faults_now = S.faults shelf.new; taken = S.taken shelf.new }) status text }
+    ensures cut_short { result ≡ Status.WriteFault → (text : List ℕ) × (status : Status) × AddsPrefix (O.written out.old) (O.written out.new) text × IsAnswer (map string_bytes words.now) (run (S.files shelf.old) (S.absences shelf.old) (S.absences shelf.new) (S.faults shelf.old) (S.faults shelf.new) (S.taken shelf.new)) status text }
     ensures write_fault { result ≡ Status.WriteFault → Rose (O.faults out.old) (O.faults out.new) }
     // Where an answer can be given and nothing fails, only want of memory is answered in its place.
     ensures complete { CanAnswer (map string_bytes words.now) (S.files shelf.old) → Stood (S.faults shelf.old) (S.faults shelf.new) → Stood (O.faults out.old) (O.faults out.new) → (result ≡ Status.Done) ⊎ (result ≡ Status.Memory) }
     // The shelf holds what it held.
     ensures files { S.files shelf.new ≡ S.files shelf.old }
+    // Words that are no command leave the shelf as it is.
+    ensures untouched { question_of (map string_bytes words.now) ≡ None → shelf.new ≡ shelf.old }
     // Without memory nothing is written, and words that are no command want none.
     ensures memory { result ≡ Status.Memory → O.written out.new ≡ O.written out.old }
     ensures usage_needs_none { question_of (map string_bytes words.now) ≡ None → result ≢ Status.Memory }
@@ -51,7 +54,7 @@ pub fn lux<S: lux_io::Shelf, O: Sink>(
     let Some(asked) = question_of(words) else {
         return written(out, Status::Usage, USAGE.as_bytes());
     };
-    let Ok(reply) = reply_to(alloc, asked, room_name(words), shelf) else {
+    let Ok(reply) = reply_to(alloc, asked, file_name(words), shelf) else {
         return Status::Memory;
     };
     written(out, reply.status, reply.text.as_bytes())

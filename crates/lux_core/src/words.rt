@@ -1,10 +1,10 @@
-// The words of the command line.
+//! The words of the command line.
 ghost use Rattle.std.specs.Prelude.{◌≡◌, ◌*◌, ◌<◌, ◌≤◌, min, map, string_bytes, length, slice_index_or, [], IfSome, pos};
 ghost use Rattle.std.specs.List.{list_all};
 ghost use Rattle.std.specs.Option.{option_map};
 ghost use Rattle.room_layout.specs.Place.{place_of_size, point_of};
 ghost use Rattle.sight_line.specs.Reach.{IsInReach};
-ghost use Rattle.lux_core.specs.Commands.{coordinate, coordinate_at, is_digit, is_number, is_plain, names_file, number_after, point_at, question_of, room_name, sight_between};
+ghost use Rattle.lux_core.specs.Commands.{coordinate, coordinate_at, file_name, is_digit, is_number, is_plain, names_file, number_after, point_at, question_of, sight_between};
 ghost use Rattle.lux_core.specs.Questions.{IsInRange};
 
 use room_layout::Point;
@@ -16,11 +16,18 @@ const GREATEST_COORDINATE: u32 = 100_000;
 
 /// What is asked of a room.
 #[derive(Clone, Copy, Debug, PartialEq, Eq)]
-pub enum Question {
+pub enum RoomQuestion {
     /// The report of its task points.
     Report,
     /// Whether two points, in half mm, see each other.
     Sight(Point, Point),
+}
+
+/// What is asked of a file.
+#[derive(Clone, Copy, Debug, PartialEq, Eq)]
+pub enum Question {
+    /// Something of the room whose layout it is.
+    Room(RoomQuestion),
 }
 
 /// Whether no byte is a control character.
@@ -112,10 +119,10 @@ fn sight_of(words: &[String]) -> Option<Question>
 {
     let from = point_of(words[2].as_str(), words[3].as_str(), words[4].as_str())?;
     let to = point_of(words[5].as_str(), words[6].as_str(), words[7].as_str())?;
-    Some(Question::Sight(from, to))
+    Some(Question::Room(RoomQuestion::Sight(from, to)))
 }
 
-/// What the words ask of the room whose file is named by the second of them; nothing where they are no command.
+/// What the words ask of the file that the second of them names; nothing where they are no command.
 pub fn question_of(words: &[String]) -> Option<Question>
     ensures asked { result ≡ question_of (map string_bytes words.now) }
     ensures within { IfSome result IsInRange }
@@ -129,7 +136,7 @@ pub fn question_of(words: &[String]) -> Option<Question>
         return None;
     }
     if words.len() == 2 && command == "report" {
-        return Some(Question::Report);
+        return Some(Question::Room(RoomQuestion::Report));
     }
     if words.len() == 8 && command == "sight" {
         return sight_of(words);
@@ -137,10 +144,10 @@ pub fn question_of(words: &[String]) -> Option<Question>
     None
 }
 
-/// The name of the room's file.
-pub fn room_name(words: &[String]) -> &str
+/// The name of the file.
+pub fn file_name(words: &[String]) -> &str
     requires { 2 ≤ length words.now }
-    ensures { result.now ≡ room_name (map string_bytes words.now) }
+    ensures { result.now ≡ file_name (map string_bytes words.now) }
 {
     words[1].as_str()
 }

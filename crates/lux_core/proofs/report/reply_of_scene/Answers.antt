@@ -8,6 +8,7 @@ returns-in_ok-text-in-Ok c =
     let r = c.requires in
     let h = c.in_ok-text-in-Ok.ensures in
     record {
+      even = r.even;
       within = r.within;
       none_heavy = c.none_is_shown_heavy.ensures c.args.room.now (numbers c.args.scene.now) r.accepted r.formed r.scene c.in-Ok.ensures.none_heavy;
       report = h.0;
