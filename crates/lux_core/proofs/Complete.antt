@@ -13,7 +13,7 @@ use Rattle.scene_system.specs.declared.fault.SceneFault.{SceneFault}
 use Rattle.scene_system.specs.declared.fault.SceneFault.TheVariants as scene_fault
 use Rattle.lux_core.specs.Answers.{IsBytesAnswer, IsAbsent, IsTooLong, IsFileAnswer, IsAnswer, CanAnswer, IsAble}
 use Rattle.lux_core.specs.Commands.{question_of, file_name}
-use Rattle.lux_core.specs.RoomAnswers.{IsSaidOf, HasNoScene, HasHeavyRow, IsRoomAnswer, IsAbleOf, CanTell}
+use Rattle.lux_core.specs.RoomAnswers.{IsSaidOf, HasNoScene, HasHeavyRow, IsRoomAnswer, IsAbleOf}
 use Rattle.lux_core.specs.Runs.{Run, WereRead, longest_file}
 use Rattle.lux_core.specs.declared.words.RoomQuestion.{RoomQuestion}
 use Rattle.lux_core.specs.declared.words.RoomQuestion.TheVariants as asks

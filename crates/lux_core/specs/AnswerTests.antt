@@ -6,11 +6,11 @@ use Rattle.decimal_text.specs.Decimals.{thousandths}
 use Rattle.grid_report.specs.Printed.{line}
 use Rattle.room_layout.specs.Place.{point_of}
 use Rattle.scene_system.specs.declared.fault.SceneFault.TheVariants as scene_fault
-use Rattle.lux_core.specs.Answers.{IsAnswer, IsUsage}
+use Rattle.lux_core.specs.Answers.{IsAnswer}
 use Rattle.lux_core.specs.RoomAnswers.{scene_fault_text}
 use Rattle.lux_core.specs.Runs.{Run, run}
 use Rattle.lux_core.specs.Codes.{status_code}
-use Rattle.lux_core.specs.Commands.{names_file, is_number, number_after, coordinate, question_of, file_name, usage_line}
+use Rattle.lux_core.specs.Commands.{names_file, number_after, coordinate, question_of, file_name, usage_line}
 use Rattle.lux_core.specs.declared.status.Status.TheVariants as status
 use Rattle.lux_core.specs.declared.words.Question.TheVariants as question
 use Rattle.lux_core.specs.declared.words.RoomQuestion.TheVariants.{Report, Sight}

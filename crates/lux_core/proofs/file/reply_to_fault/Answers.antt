@@ -1,4 +1,4 @@
-use Rattle.std.proofs.Common.{◌++◌, ◌∙◌, List, ℕ, refl, sym, append_assoc}
+use Rattle.std.proofs.Common.{◌++◌, ◌∙◌, refl, sym, append_assoc}
 use Rattle.std.specs.Prelude.{codes}
 use Rattle.lux_core.proofs.file.reply_to_fault.Goals as goal
 
