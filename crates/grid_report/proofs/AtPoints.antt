@@ -14,7 +14,7 @@ use Rattle.interval_system.specs.System.{no_weight, no_light, IsDirectLight, IsR
 use Rattle.patch_mesh.specs.declared.patch.TaskPoint.{TaskPoint}
 use Rattle.radiosity_solve.specs.Bounds.{tick_at}
 use Rattle.radiosity_solve.specs.Shown.{down_to, up_to}
-use Rattle.radiosity_solve.proofs.Sums.{total-le}
+use Rattle.interval_system.proofs.Totals.{total-le}
 use Rattle.scene_system.specs.Assembled.{Numbers, is_open_point, open_points, IsWellFormed}
 use Rattle.scene_system.specs.Scene.{no_task_point}
 use Rattle.grid_report.specs.PointValues.{lower_value, upper_value, IsValueOf}

@@ -17,7 +17,7 @@ use Rattle.interval_system.specs.System.{IsDirectLight, NoneHeavy, no_light, wei
 use Rattle.interval_system.specs.Whole.{total}
 use Rattle.radiosity_solve.specs.Bounds.{IsEnd, IsLowerAnswer, IsUpperAnswer, IsInOrder, no_tick, tick_at, ticks_solution}
 use Rattle.radiosity_solve.specs.Shown.{down_to, up_to, IsShownLower, IsShownUpper}
-use Rattle.radiosity_solve.proofs.Sums.{total-le}
+use Rattle.interval_system.proofs.Totals.{total-le}
 use Rattle.room_layout.specs.Accepted.{IsAccepted}
 use Rattle.room_layout.specs.declared.room.Room.{Room}
 use Rattle.room_layout.specs.declared.geometry.Face.TheVariants.{Up}

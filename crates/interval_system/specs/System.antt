@@ -2,14 +2,20 @@
 use Rattle.std.specs.Prelude.{ℕ, ◌≡◌, ◌<◌, ◌≤◌, ◌^◌, List, [], length, sum_by, slice_index_or, All, pos, ◌≤ℤ◌}
 use Rattle.fx_base.specs.declared.Weight.{Weight}
 use Rattle.fx_base.specs.Ends.{Ends}
-use Rattle.fx_base.specs.Units.{natural}
+use Rattle.fx_base.specs.Units.{natural, no_weight}
+pub use Rattle.fx_base.specs.Units.{no_weight}
 
 -- a part of one
 pub record IsWeight (w : Weight) : Type 0 where
   pub in_order : w.lo ≤ w.hi
   pub most : w.hi ≤ 2 ^ 36
 
--- direct light from 0 to 2^82 ticks
+-- from 0 to 2^82 ticks, the range of direct light
+pub record IsInLightRange (d : Ends) : Type 0 where
+  pub low : pos 0 ≤ℤ d.lo
+  pub most : d.hi ≤ℤ pos (2 ^ 82)
+
+-- direct light: its ends are in that range and in order
 pub record IsDirectLight (d : Ends) : Type 0 where
   pub low : pos 0 ≤ℤ d.lo
   pub in_order : d.lo ≤ℤ d.hi
@@ -32,9 +38,6 @@ pub record IsSystem (s : System) : Type 0 where
   pub light : All IsDirectLight s.direct
 
 -- ---- its numbers
-
-abbrev pub no_weight : Weight
-no_weight = record { lo = 0; hi = 0 }
 
 abbrev pub no_light : Ends
 no_light = record { lo = pos 0; hi = pos 0 }
@@ -64,15 +67,15 @@ abbrev pub upper_total : List Weight → ℕ
 upper_total weights = sum_by (λ w. w.hi) weights
 
 -- 255/256 in ticks, the greatest sum of a row with which a system is solved
-abbrev pub most_of_row : ℕ
-most_of_row = 68451041280
+abbrev pub greatest_row_sum : ℕ
+greatest_row_sum = 68451041280
 
 abbrev pub NoneHeavy : List (List Weight) → Type 0
-NoneHeavy rows = All (λ row. upper_total row ≤ most_of_row) rows
+NoneHeavy rows = All (λ row. upper_total row ≤ greatest_row_sum) rows
 
 -- row i is the first whose sum is above that, and this is its sum
 pub record IsFirstHeavy (rows : List (List Weight)) (i sum : ℕ) : Type 0 where
   pub inside : i < length rows
   pub is : sum ≡ upper_total (slice_index_or rows i [])
-  pub heavy : most_of_row < sum
-  pub earlier : (k : ℕ) → k < i → upper_total (slice_index_or rows k []) ≤ most_of_row
+  pub heavy : greatest_row_sum < sum
+  pub earlier : (k : ℕ) → k < i → upper_total (slice_index_or rows k []) ≤ greatest_row_sum

@@ -6,7 +6,7 @@ use Rattle.std.proofs.Math.Nat.{zero-lt-suc}
 use Rattle.std.proofs.lemmas.List.Elements.{All-from_recursion}
 use Rattle.fx_base.specs.declared.Weight.{Weight}
 use Rattle.interval_system.specs.Whole.{IsSolution}
-use Rattle.interval_system.specs.System.{System, IsWeight, IsDirectLight, IsSystem, NoneHeavy, IsFirstHeavy, low_weight, high_weight, high_direct, upper_total, most_of_row}
+use Rattle.interval_system.specs.System.{System, IsWeight, IsDirectLight, IsSystem, NoneHeavy, IsFirstHeavy, low_weight, high_weight, high_direct, upper_total, greatest_row_sum}
 
 -- h = 1 + h / 2 over the denominator 2: h is 2, and 6/3 too
 one_patch : IsSolution 1 2 (λ i j. 1) (λ i. pos 2) 1 (λ i. pos 2)
@@ -75,11 +75,11 @@ more = record { lo = 0; hi = 68451041281 } ∷ []
 
 just_is_not_heavy : NoneHeavy (just ∷ just ∷ [])
 unfolding just
-just_is_not_heavy = All-from_recursion (λ row. upper_total row ≤ most_of_row) (just ∷ just ∷ []) (lit≤ tt, (lit≤ tt, tt))
+just_is_not_heavy = All-from_recursion (λ row. upper_total row ≤ greatest_row_sum) (just ∷ just ∷ []) (lit≤ tt, (lit≤ tt, tt))
 
-before_the_second : (k : ℕ) → k < 1 → upper_total (slice_index_or (just ∷ more ∷ more ∷ []) k []) ≤ most_of_row
+before_the_second : (k : ℕ) → k < 1 → upper_total (slice_index_or (just ∷ more ∷ more ∷ []) k []) ≤ greatest_row_sum
 unfolding just more
-before_the_second k l = subst (λ k. upper_total (slice_index_or (just ∷ more ∷ more ∷ []) k []) ≤ most_of_row) (sym (lt-one l)) (lit≤ tt)
+before_the_second k l = subst (λ k. upper_total (slice_index_or (just ∷ more ∷ more ∷ []) k []) ≤ greatest_row_sum) (sym (lt-one l)) (lit≤ tt)
 
 -- of two heavy rows the first is named
 second_is_the_first_heavy : IsFirstHeavy (just ∷ more ∷ more ∷ []) 1 68451041281

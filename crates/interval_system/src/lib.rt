@@ -2,6 +2,7 @@
 #![tactic(auto)]
 
 mod row;
+mod sent;
 mod system;
 
 pub use row::Row;

@@ -1,7 +1,10 @@
-ghost use Rattle.std.specs.Prelude.{◌≡◌, ℕ, ◌+◌, ◌<◌, ◌≤◌, ◌^◌, ◌↔◌, IsTrue, List, length, replicate, slice_index_or, slice_set, IfOk};
+ghost use Rattle.std.specs.Prelude.{◌≡◌, ℕ, ◌+◌, ◌<◌, ◌≤◌, ◌^◌, ◌↔◌, IsTrue, List, All, length, replicate, slice_index_or, slice_set, IfOk};
 ghost use Rattle.interval_system.specs.System.{IsWeight, IsRow, no_weight, upper_total};
+ghost use Rattle.interval_system.specs.Sent.{sent_low, sent_high};
+ghost use Rattle.fx_base.specs.Bound.{IsEnd};
 
-use fx_base::{Memory, Weight};
+use crate::sent::{high_sum, low_sum};
+use fx_base::{Memory, Tick, Weight};
 use std::alloc::Global;
 use std::marker::Model;
 
@@ -29,10 +32,8 @@ impl Row {
         requires { n ≤ 2048 }
         ensures { IfOk result (λ row. row ≡ replicate n no_weight) }
     {
-        match vec![in alloc; Weight { lo: 0, hi: 0 }; n] {
-            Ok(weights) => Ok(Row { weights }),
-            Err(_) => Err(Memory),
-        }
+        let weights = vec![in alloc; Weight::NONE; n]?;
+        Ok(Row { weights })
     }
 
     /// How many weights there are.
@@ -78,5 +79,25 @@ impl Row {
             sum += w.hi;
         }
         sum
+    }
+
+    /// What patches with this light send to the row's place by the lower ends, each product rounded down, in ticks.
+    pub fn sent_below(&self, light: &[Tick]) -> u128
+        requires size { length light.now ≡ length self.now }
+        requires ends { All IsEnd light.now }
+        ensures sent { result ≡ sent_low self.now light.now (length self.now) }
+        ensures most { result ≤ 2 ^ 101 }
+    {
+        low_sum(self.weights.as_slice(), light)
+    }
+
+    /// The same by the upper ends, each product rounded up.
+    pub fn sent_above(&self, light: &[Tick]) -> u128
+        requires size { length light.now ≡ length self.now }
+        requires ends { All IsEnd light.now }
+        ensures sent { result ≡ sent_high self.now light.now (length self.now) }
+        ensures most { result ≤ 2 ^ 101 }
+    {
+        high_sum(self.weights.as_slice(), light)
     }
 }

@@ -1,5 +1,5 @@
 ghost use Rattle.std.specs.Prelude.{◌≡◌, ℕ, ◌+◌, ◌<◌, ◌≤◌, List, [], length, replicate, slice_index_or, slice_set, IfOk, MatchOption, All};
-ghost use Rattle.interval_system.specs.System.{IsWeight, IsDirectLight, IsSystem, no_weight, no_light, weight_at, direct_at, upper_total, NoneHeavy, IsFirstHeavy};
+ghost use Rattle.interval_system.specs.System.{IsWeight, IsDirectLight, IsInLightRange, IsRow, IsSystem, no_weight, no_light, weight_at, direct_at, upper_total, NoneHeavy, IsFirstHeavy};
 
 use crate::row::Row;
 use fx_base::{Memory, Span, Weight};
@@ -7,7 +7,7 @@ use std::alloc::Global;
 use std::marker::Model;
 
 /// The greatest sum of the upper ends of a row with which a system is solved: 255/256, in ticks.
-const MOST_OF_ROW: u64 = 68_451_041_280;
+const GREATEST_ROW_SUM: u64 = 68_451_041_280;
 
 /// A row whose upper ends add up to more than 255/256, and that sum in ticks.
 #[derive(Clone, Copy, Debug, PartialEq, Eq)]
@@ -42,12 +42,28 @@ fn empty_rows(alloc: Global, n: usize) -> Result<Vec<Row>, Memory>
     let mut rows = Vec::new(alloc);
     for _ in 0..n {
         let row = Row::new(alloc, n)?;
-        match rows.push(row) {
-            Ok(()) => {}
-            Err(_) => return Err(Memory),
-        }
+        rows.push(row)?;
     }
     Ok(rows)
+}
+
+/// What the type of a row keeps, said of each row. Nothing is computed.
+fn rows_hold(rows: &[Row])
+    ensures { All IsRow rows.now }
+{
+    for i in 0..rows.len() {
+        let _len = rows[i].len();
+    }
+}
+
+/// The order that the type of a span keeps, said of each span of light. Nothing is computed.
+fn lights_hold(direct: &[Span])
+    requires { All IsInLightRange direct.now }
+    ensures { All IsDirectLight direct.now }
+{
+    for i in 0..direct.len() {
+        let _low = direct[i].lo();
+    }
 }
 
 impl IntervalSystem {
@@ -58,18 +74,21 @@ impl IntervalSystem {
         ensures direct { IfOk result (λ s. s.direct ≡ replicate n no_light) }
     {
         let rows = empty_rows(alloc, n)?;
-        match vec![in alloc; Span::whole(0); n] {
-            Ok(direct) => Ok(IntervalSystem { rows, direct }),
-            Err(_) => Err(Memory),
-        }
+        let direct = vec![in alloc; Span::whole(0); n]?;
+        Ok(IntervalSystem { rows, direct })
     }
 
     /// The system of these rows and this direct light, in order.
     pub fn from_rows(rows: Vec<Row>, direct: Vec<Span>) -> IntervalSystem
-        requires { IsSystem (record { rows = rows.items; direct = direct.items }) }
+        requires few { length rows.items ≤ 2048 }
+        requires square { All (λ row. length row ≡ length rows.items) rows.items }
+        requires lights { length direct.items ≡ length rows.items }
+        requires light { All IsInLightRange direct.items }
         ensures rows { result.rows ≡ rows.items }
         ensures direct { result.direct ≡ direct.items }
     {
+        rows_hold(rows.as_slice());
+        lights_hold(direct.as_slice());
         IntervalSystem { rows, direct }
     }
 
@@ -79,6 +98,15 @@ impl IntervalSystem {
         ensures system { IsSystem self.now }
     {
         self.rows.len()
+    }
+
+    /// The weights of row i.
+    pub fn row(&self, i: usize) -> &Row
+        requires { i < length self.now.rows }
+        ensures row { result.now ≡ slice_index_or self.now.rows i [] }
+        ensures size { length result.now ≡ length self.now.rows }
+    {
+        &self.rows[i]
     }
 
     /// The weight of patch j at patch i.
@@ -114,10 +142,12 @@ impl IntervalSystem {
     /// Puts d in place of the direct light of patch i.
     pub fn set_direct(&mut self, i: usize, d: Span)
         requires row { i < length self.old.rows }
-        requires light { IsDirectLight d }
+        requires light { IsInLightRange d }
         ensures rows { self.new.rows ≡ self.old.rows }
         ensures direct { self.new.direct ≡ slice_set self.old.direct i d }
     {
+        // its ends are in order
+        let _low = d.lo();
         self.direct[i] = d;
     }
 
@@ -135,7 +165,7 @@ impl IntervalSystem {
     {
         for i in 0..self.rows.len() {
             let upper = self.rows[i].sum();
-            if upper > MOST_OF_ROW {
+            if upper > GREATEST_ROW_SUM {
                 return Some(Heavy {
                     row: i as u32,
                     upper,

@@ -1,7 +1,7 @@
 ghost use Rattle.std.specs.Prelude.{◌≡◌, ℕ, ◌<◌, ◌≤◌, ◌^◌, length};
 
 use crate::{Heavy, IntervalSystem, Row};
-use fx_base::{Span, Weight};
+use fx_base::{Span, Tick, Weight};
 use std::test::Fail;
 
 const QUARTER: Weight = Weight {
@@ -56,5 +56,17 @@ fn a_system_is_made_from_its_rows(rt: HostRuntime) -> Result<(), Fail> {
     let system = IntervalSystem::from_rows(rows, direct);
     assert_eq!(rt; system.weight(0, 0), QUARTER);
     assert_eq!(rt; system.direct(0).lo().0, 481_036_337_152);
+    Ok(())
+}
+
+// floor and ceil of the products by 2^36, added: Python's fractions
+#[test]
+fn a_row_sends_its_share_of_each_light(rt: HostRuntime) -> Result<(), Fail> {
+    let mut row = Row::new(rt.alloc(), 3)?;
+    row.put(0, QUARTER);
+    row.put(2, WHOLE);
+    let light = [Tick(1_000_000_000_001), Tick(77), Tick(12_345)];
+    assert_eq!(rt; row.sent_below(&light), 250_000_012_330);
+    assert_eq!(rt; row.sent_above(&light), 250_000_012_346);
     Ok(())
 }

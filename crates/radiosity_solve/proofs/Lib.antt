@@ -1,4 +1,3 @@
-pub mod Sums
 pub mod Maximum
 pub mod Pairs
 pub mod Elimination

@@ -4,7 +4,7 @@ use Rattle.std.proofs.Common.{ℕ, zero, suc, ◌+◌, ◌*◌, ◌<◌, ◌≤�
 use Rattle.std.proofs.Math.Nat.{mul-le-mul_left}
 use Rattle.std.proofs.lemmas.Bool.{cases_lt}
 use Rattle.interval_system.specs.Whole.{total, IsBelowOne}
-use Rattle.radiosity_solve.proofs.Sums.{at-le-total}
+use Rattle.interval_system.proofs.Totals.{at-le-total}
 
 row-bound : (n : ℕ) (k a b : ℕ → ℕ) (d : ℕ) → ((j : ℕ) → j < n → a j ≤ b j + d)
     → total n (λ j. k j * a j) ≤ total n (λ j. k j * b j) + d * total n k

@@ -1,28 +1,19 @@
 -- What the conditions of a system, and that no row is heavy, say of its numbers.
-use Rattle.std.proofs.Common.{ℕ, suc, ◌+◌, ◌*◌, ◌^◌, ◌<◌, ◌≤◌, ◌≡◌, refl, sym, ap, ◌∙◌, List, [], ◌∷◌, length, get_or, sum_by, All, arith}
-use Rattle.std.specs.Prelude.{ℤ, pos, negsuc, ◌≤ℤ◌}
+use Rattle.std.proofs.Common.{ℕ, suc, ◌*◌, ◌^◌, ◌<◌, ◌≤◌, ◌≡◌, refl, sym, ap, ◌∙◌, [], length, get_or, All, arith}
 use Rattle.std.proofs.Math.Nat.{mul-le-mul_left}
 use Rattle.std.proofs.lemmas.List.Elements.{All-get_or}
-use Rattle.std.proofs.lemmas.List.Sums.{sum_by-cons}
-use borrow.Author.Differences.{ints}
 use Rattle.fx_base.specs.declared.Weight.{Weight}
 use Rattle.fx_base.specs.Fraction.{Fraction, whole, sum_to}
-use Rattle.fx_base.specs.Units.{natural, ticks}
+use Rattle.fx_base.specs.Units.{ticks}
+use Rattle.fx_base.proofs.Rounding.{natural-mono, natural_most}
 use Rattle.interval_system.specs.Whole.{total, IsBelowOne}
 use Rattle.interval_system.specs.Equations.{RowsBelowOne, IsOver}
-use Rattle.interval_system.specs.System.{System, IsSystem, IsWeight, IsDirectLight, NoneHeavy, no_weight, no_light, weight_at, direct_at, low_weight, high_weight, low_direct, high_direct, upper_total, most_of_row}
+use Rattle.interval_system.specs.System.{System, IsSystem, IsWeight, IsDirectLight, NoneHeavy, no_weight, no_light, weight_at, direct_at, low_weight, high_weight, low_direct, high_direct, upper_total, greatest_row_sum}
 use Rattle.radiosity_solve.specs.Bounds.{IsWithin}
 use Rattle.radiosity_solve.specs.Laws.{IsBelowEquations}
-use Rattle.radiosity_solve.proofs.Sums.{total-le, total-first, total-scale}
+use Rattle.interval_system.proofs.Totals.{total-le, total-scale, sum_by-total}
 use Rattle.radiosity_solve.proofs.Over.{over-sum}
 use Rattle.radiosity_solve.proofs.Rate.{IsMild, light-below}
-
-pub sum_by-total : {X : Type 0} (f : X → ℕ) (xs : List X) (d : X) → sum_by f xs ≡ total (length xs) (λ j. f (get_or xs j d))
-sum_by-total f [] d = refl
-sum_by-total f (x ∷ xs) d =
-    let first : total (suc (length xs)) (λ j. f (get_or (x ∷ xs) j d)) ≡ f x + total (length xs) (λ j. f (get_or xs j d))
-    = total-first (length xs) (λ j. f (get_or (x ∷ xs) j d)) in
-    sum_by-cons f x xs ∙ ap (λ (z : ℕ). f x + z) (sum_by-total f xs d) ∙ sym first
 
 -- ---- the numbers of a system with no heavy row
 
@@ -34,15 +25,6 @@ pub record AreMild (s : System) : Type 0 where
   pub high_light : (i : ℕ) → i < length s.rows → high_direct s i ≤ 2 ^ 82
   pub low_light : (i : ℕ) → i < length s.rows → low_direct s i ≤ 2 ^ 82
   pub ordered_light : (i : ℕ) → i < length s.rows → low_direct s i ≤ high_direct s i
-
-natural-order : (a b : ℤ) → pos 0 ≤ℤ a → a ≤ℤ b → natural a ≤ natural b
-natural-order (pos a) (pos b) l h = omega (arith, ints, h)
-natural-order (pos a) (negsuc b) l h = omega (arith, ints, h)
-natural-order (negsuc a) b l h = omega arith
-
-natural-most : (a : ℤ) (n : ℕ) → a ≤ℤ pos n → natural a ≤ n
-natural-most (pos a) n h = omega (arith, ints, h)
-natural-most (negsuc a) n h = omega arith
 
 weight-is : (s : System) → IsSystem s → (i j : ℕ) → i < length s.rows → j < length s.rows → IsWeight (weight_at s i j)
 weight-is s y i j l w =
@@ -61,7 +43,7 @@ row-total s y i l =
 pub mild : (s : System) → IsSystem s → NoneHeavy s.rows → AreMild s
 mild s y none =
     let high : (i : ℕ) → i < length s.rows → 256 * total (length s.rows) (high_weight s i) ≤ 255 * 68719476736 = λ i l.
-    omega (arith, row-total s y i l, All-get_or (λ row. upper_total row ≤ most_of_row) s.rows i [] l none) in
+    omega (arith, row-total s y i l, All-get_or (λ row. upper_total row ≤ greatest_row_sum) s.rows i [] l none) in
     record {
       few = y.few;
       high = record { row = high };
@@ -69,11 +51,11 @@ mild s y none =
         row = λ i l. omega (arith, high i l, total-le (length s.rows) (low_weight s i) (high_weight s i) (λ j w. (weight-is s y i j l w).in_order));
       };
       ordered = λ i j l w. (weight-is s y i j l w).in_order;
-      high_light = λ i l. natural-most (direct_at s i).hi (2 ^ 82) (light-is s y i l).most;
+      high_light = λ i l. natural_most (direct_at s i).hi (2 ^ 82) (light-is s y i l).most;
       low_light = λ i l.
-          let order : low_direct s i ≤ high_direct s i = natural-order (direct_at s i).lo (direct_at s i).hi (light-is s y i l).low (light-is s y i l).in_order in
-          omega (arith, order, natural-most (direct_at s i).hi (2 ^ 82) (light-is s y i l).most);
-      ordered_light = λ i l. natural-order (direct_at s i).lo (direct_at s i).hi (light-is s y i l).low (light-is s y i l).in_order;
+          let order : low_direct s i ≤ high_direct s i = natural-mono (direct_at s i).lo (direct_at s i).hi (light-is s y i l).low (light-is s y i l).in_order in
+          omega (arith, order, natural_most (direct_at s i).hi (2 ^ 82) (light-is s y i l).most);
+      ordered_light = λ i l. natural-mono (direct_at s i).lo (direct_at s i).hi (light-is s y i l).low (light-is s y i l).in_order;
     }
 
 -- ---- the systems in its intervals

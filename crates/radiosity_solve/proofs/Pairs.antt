@@ -2,7 +2,7 @@
 -- (e i - f i) / q.
 use Rattle.std.proofs.Common.{ℕ, ◌+◌, ◌*◌, ◌<◌, ◌≡◌, arith}
 use Rattle.interval_system.specs.Whole.{total}
-use Rattle.radiosity_solve.proofs.Sums.{total-zero, total-same}
+use Rattle.interval_system.proofs.Totals.{total-zero, total-same}
 
 pub record Solves (n q : ℕ) (k : ℕ → ℕ → ℕ) (e f : ℕ → ℕ) (m : ℕ) (up down : ℕ → ℕ) : Type 0 where
   pub positive : 0 < m

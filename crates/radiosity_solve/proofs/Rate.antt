@@ -3,7 +3,7 @@ use Rattle.std.proofs.Common.{ℕ, zero, suc, ◌+◌, ◌*◌, ◌<◌, ◌≤�
 use Rattle.std.proofs.Math.Nat.{mul-le-mul_left, le_of_mul-le-mul_left}
 use Rattle.interval_system.specs.Whole.{total, IsBelowOne}
 use Rattle.radiosity_solve.specs.Shown.{lower_sum, upper_sum}
-use Rattle.radiosity_solve.proofs.Sums.{total-le, total-times}
+use Rattle.interval_system.proofs.Totals.{total-le, total-times}
 use Rattle.radiosity_solve.proofs.Maximum.{at_most}
 use Rattle.radiosity_solve.proofs.Pairs.{SolvesPlainly}
 use Rattle.radiosity_solve.proofs.Claims.{downs-near, ups-near}

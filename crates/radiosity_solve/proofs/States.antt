@@ -9,13 +9,14 @@ use Rattle.fx_base.specs.declared.Tick.{Tick}
 use Rattle.fx_base.specs.Fraction.{◌≤ᶠ◌, ◌+ᶠ◌, ratio}
 use Rattle.fx_base.specs.Units.{ticks}
 use Rattle.fx_base.proofs.Order.{le_trans_f, add_le_f, le_refl_f, le_of_eq_f, ge_of_eq_f}
+use Rattle.fx_base.proofs.Shares.{up_rises, down_rises, down_below_up}
 use Rattle.fx_base.proofs.Ratios.{ratio_num, ratio_den}
 use Rattle.interval_system.specs.Whole.{denominator, numerator}
 use Rattle.interval_system.specs.System.{System, low_weight, high_weight, low_direct, high_direct}
 use Rattle.radiosity_solve.specs.Shown.{down_to, up_to, lower_sum, upper_sum, IsShownLower, IsShownUpper}
 use Rattle.radiosity_solve.specs.Bounds.{IsEnd, tick_at, no_tick, IsUniquelySolved, IsBelowEverySolution, IsAboveEverySolution, lower_solution, upper_solution, ten_thousandth, IsLowerAnswer, IsUpperAnswer, IsInOrder}
-use Rattle.radiosity_solve.specs.Turn.{lower_light, upper_light, IsLowerTurn, IsUpperTurn, IsChangedBy}
-use Rattle.radiosity_solve.proofs.Sums.{total-le, total-same, total-scale}
+use Rattle.radiosity_solve.specs.Turn.{next_low, next_high, IsLowerTurn, IsUpperTurn, IsChangedBy}
+use Rattle.interval_system.proofs.Totals.{total-le, total-same, total-scale}
 use Rattle.radiosity_solve.proofs.Pairs.{SolvesPlainly, none, plain-solves}
 use Rattle.radiosity_solve.proofs.Elimination.{eliminated}
 use Rattle.radiosity_solve.proofs.Claims.{upper_holds, lower_holds, in_order}
@@ -27,25 +28,13 @@ use Rattle.radiosity_solve.proofs.Steps.{end_small}
 
 -- ---- sums rise with what is summed
 
-up-rises : (a b : ℕ) → a ≤ b → up_to 68719476736 a ≤ up_to 68719476736 b
-unfolding up_to
-up-rises a b h = omega arith
-
-down-rises : (a b : ℕ) → a ≤ b → down_to 68719476736 a ≤ down_to 68719476736 b
-unfolding down_to
-down-rises a b h = omega arith
-
-down-below-up : (a b : ℕ) → a ≤ b → down_to 68719476736 a ≤ up_to 68719476736 b
-unfolding down_to up_to
-down-below-up a b h = omega arith
-
 upper_sum-rises : (n : ℕ) (k : ℕ → ℕ → ℕ) (d x y : ℕ → ℕ) → ((j : ℕ) → j < n → x j ≤ y j) → (i : ℕ)
     → upper_sum n 68719476736 k d x i ≤ upper_sum n 68719476736 k d y i
 upper_sum-rises n k d x y h i =
     omega (
       arith,
       total-le n (λ j. up_to 68719476736 (k i j * x j)) (λ j. up_to 68719476736 (k i j * y j))
-          (λ j w. up-rises (k i j * x j) (k i j * y j) (mul-le-mul_left (k i j) (h j w))),
+          (λ j w. up_rises (k i j * x j) (k i j * y j) (mul-le-mul_left (k i j) (h j w))),
     )
 
 lower_sum-rises : (n : ℕ) (k : ℕ → ℕ → ℕ) (d x y : ℕ → ℕ) → ((j : ℕ) → j < n → x j ≤ y j) → (i : ℕ)
@@ -54,7 +43,7 @@ lower_sum-rises n k d x y h i =
     omega (
       arith,
       total-le n (λ j. down_to 68719476736 (k i j * x j)) (λ j. down_to 68719476736 (k i j * y j))
-          (λ j w. down-rises (k i j * x j) (k i j * y j) (mul-le-mul_left (k i j) (h j w))),
+          (λ j w. down_rises (k i j * x j) (k i j * y j) (mul-le-mul_left (k i j) (h j w))),
     )
 
 lower-below-upper : (n : ℕ) (k : ℕ → ℕ → ℕ) (d x y : ℕ → ℕ) → ((j : ℕ) → j < n → x j ≤ y j) → (i : ℕ)
@@ -63,7 +52,7 @@ lower-below-upper n k d x y h i =
     omega (
       arith,
       total-le n (λ j. down_to 68719476736 (k i j * x j)) (λ j. up_to 68719476736 (k i j * y j))
-          (λ j w. down-below-up (k i j * x j) (k i j * y j) (mul-le-mul_left (k i j) (h j w))),
+          (λ j w. down_below_up (k i j * x j) (k i j * y j) (mul-le-mul_left (k i j) (h j w))),
     )
 
 -- ---- 2^90 ticks everywhere are an upper claim
@@ -148,7 +137,7 @@ made-tick xs i v e = rw e refl
 
 pub upper_made : (s : System) (x y : List Tick) → IsUpperTurn s x y → (i : ℕ) → i < length s.rows
     → tick_at y i ≡ upper_sum (length s.rows) 68719476736 (high_weight s) (high_direct s) (tick_at x) i
-unfolding upper_light
+unfolding next_high
 upper_made s x y t i l = made-tick y i (upper_sum (length s.rows) 68719476736 (high_weight s) (high_direct s) (tick_at x) i) (t.row i l)
 
 pub upper_falls : (s : System) (x y : List Tick) → IsShownUpper (length s.rows) 68719476736 (high_weight s) (high_direct s) (tick_at x)
@@ -177,10 +166,10 @@ upper_turned s x y t a state turn = record {
 end-of : (v : ℕ) → v ≤ 2 ^ 90 → IsEnd (record { 0 = pos v })
 end-of v h = record { low = at_most_in (pos 0) (pos v) (omega arith); high = at_most_in (pos v) (pos (2 ^ 90)) (omega arith) }
 
-upper_light-is : (s : System) (x : List Tick) (i : ℕ)
-    → upper_light s x i ≡ upper_sum (length s.rows) 68719476736 (high_weight s) (high_direct s) (tick_at x) i
-unfolding upper_light
-upper_light-is s x i = refl
+next_high-is : (s : System) (x : List Tick) (i : ℕ)
+    → next_high s x i ≡ upper_sum (length s.rows) 68719476736 (high_weight s) (high_direct s) (tick_at x) i
+unfolding next_high
+next_high-is s x i = refl
 
 end-size : (x : List Tick) (i : ℕ) → i < length x → All IsEnd x → tick_at x i ≤ 2 ^ 90
 end-size x i l ends = end_small (get_or x i no_tick) (All-get_or IsEnd x i no_tick l ends)
@@ -191,7 +180,7 @@ upper_in_range s x y shown t x-size y-size ends =
     All-from_get_or IsEnd y no_tick
     (λ i l.
     let row : i < length s.rows = omega arith in
-    rw (t.row i row) (end-of (upper_light s x i) (omega (arith, upper_light-is s x i, shown.row i row, end-size x i (omega arith) ends))))
+    rw (t.row i row) (end-of (next_high s x i) (omega (arith, next_high-is s x i, shown.row i row, end-size x i (omega arith) ends))))
 
 -- ---- near enough
 
@@ -333,14 +322,14 @@ lower_begins s x a is =
       near = λ i l. omega (arith, low-top s a i l);
     }
 
-lower_light-is : (s : System) (x : List Tick) (i : ℕ)
-    → lower_light s x i ≡ lower_sum (length s.rows) 68719476736 (low_weight s) (low_direct s) (tick_at x) i
-unfolding lower_light
-lower_light-is s x i = refl
+next_low-is : (s : System) (x : List Tick) (i : ℕ)
+    → next_low s x i ≡ lower_sum (length s.rows) 68719476736 (low_weight s) (low_direct s) (tick_at x) i
+unfolding next_low
+next_low-is s x i = refl
 
 pub lower_made : (s : System) (x y : List Tick) → IsLowerTurn s x y → (i : ℕ) → i < length s.rows
     → tick_at y i ≡ lower_sum (length s.rows) 68719476736 (low_weight s) (low_direct s) (tick_at x) i
-unfolding lower_light
+unfolding next_low
 lower_made s x y t i l = made-tick y i (lower_sum (length s.rows) 68719476736 (low_weight s) (low_direct s) (tick_at x) i) (t.row i l)
 
 pub lower_rises : (s : System) (x y : List Tick) → IsShownLower (length s.rows) 68719476736 (low_weight s) (low_direct s) (tick_at x)
@@ -373,9 +362,9 @@ lower_in_range s x y a t x-size y-size ends =
     All-from_get_or IsEnd y no_tick
     (λ i l.
     let row : i < length s.rows = omega arith in
-    rw (t.row i row) (end-of (lower_light s x i) (omega (
+    rw (t.row i row) (end-of (next_low s x i) (omega (
       arith,
-      lower_light-is s x i,
+      next_low-is s x i,
       lower-below-upper (length s.rows) (low_weight s) (low_direct s) (tick_at x) top (λ j w. end-size x j (omega arith) ends) i,
       (top-shown (length s.rows) (low_weight s) (low_direct s) a.low a.low_light).row i row,
     ))))

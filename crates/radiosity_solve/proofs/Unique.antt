@@ -3,7 +3,7 @@ use Rattle.std.proofs.Common.{ℕ, ◌+◌, ◌*◌, ◌<◌, ◌≤◌, ◌≡�
 use Rattle.std.proofs.Math.Nat.{mul-le-mul_left, le_of_mul-le-mul_left}
 use Rattle.interval_system.specs.Whole.{total, IsBelowOne}
 use Rattle.radiosity_solve.specs.Laws.{IsBelowEquations}
-use Rattle.radiosity_solve.proofs.Sums.{total-le, total-mix, total-times, total-scale}
+use Rattle.interval_system.proofs.Totals.{total-le, total-mix, total-times, total-scale}
 use Rattle.radiosity_solve.proofs.Maximum.{at_most}
 use Rattle.radiosity_solve.proofs.Pairs.{Solves, SolvesPlainly}
 

@@ -1,26 +1,18 @@
 -- What the bounds of a system's solution are.
-use Rattle.std.specs.Prelude.{ℕ, ◌*◌, ◌^◌, ◌<◌, ◌≤◌, ◌≡◌, List, length, slice_index_or, All, ℤ, pos, ◌*ℤ◌, ◌≤ℤ◌}
+use Rattle.std.specs.Prelude.{ℕ, ◌*◌, ◌^◌, ◌<◌, ◌≤◌, ◌≡◌, List, length, All, ℤ, pos, ◌*ℤ◌, ◌≤ℤ◌}
 use Rattle.fx_base.specs.declared.Tick.{Tick}
 use Rattle.fx_base.specs.Fraction.{Fraction, ◌≤ᶠ◌, ◌+ᶠ◌, ratio}
-use Rattle.fx_base.specs.Units.{natural, ticks}
+use Rattle.fx_base.specs.Units.{ticks}
 use Rattle.interval_system.specs.Whole.{IsBelowOne, IsSolution}
 use Rattle.interval_system.specs.Equations.{solution}
 use Rattle.interval_system.specs.System.{System, low_weight, high_weight, low_direct, high_direct}
+use Rattle.fx_base.specs.Bound.{IsEnd}
+use Rattle.interval_system.specs.Ticks.{tick_at}
 use Rattle.radiosity_solve.specs.Shown.{IsShownLower, IsShownUpper}
 use Rattle.radiosity_solve.specs.Laws.{HasOneSolution}
-
--- ---- the ends, in ticks
-
--- from 0 to 2^90 ticks
-pub record IsEnd (t : Tick) : Type 0 where
-  pub low : pos 0 ≤ℤ t.0
-  pub high : t.0 ≤ℤ pos (2 ^ 90)
-
-abbrev pub no_tick : Tick
-no_tick = record { 0 = pos 0 }
-
-abbrev pub tick_at : List Tick → ℕ → ℕ
-tick_at xs i = natural (slice_index_or xs i no_tick).0
+-- the ends are lists of ticks from 0 to 2^90
+pub use Rattle.fx_base.specs.Bound.{IsEnd}
+pub use Rattle.interval_system.specs.Ticks.{no_tick, tick_at}
 
 -- ---- the systems in the intervals
 

@@ -11,10 +11,10 @@ use Rattle.interval_system.specs.System.{System, low_weight, high_weight, low_di
 use Rattle.radiosity_solve.specs.Shown.{down_to, up_to}
 use Rattle.radiosity_solve.specs.Bounds.{tick_at, IsEnd, IsWithin, lower_solution, upper_solution, ten_thousandth}
 use Rattle.radiosity_solve.specs.Laws.{signed_numerator}
-use Rattle.radiosity_solve.specs.Turn.{lower_light, upper_light, IsChangedBy}
+use Rattle.radiosity_solve.specs.Turn.{next_low, next_high, IsChangedBy}
 
 unfoldable computed : Unit {0}
-unfolding ◌+ᶠ◌ ◌*ᶠ◌ whole ratio sum_to ticks reduced reduced_light denominator numerator product_to common_denominator over solution down_to up_to lower_light upper_light
+unfolding ◌+ᶠ◌ ◌*ᶠ◌ whole ratio sum_to ticks reduced reduced_light denominator numerator product_to common_denominator over solution down_to up_to next_low next_high
 computed = tt
 
 abbrev sample : System
@@ -81,19 +81,19 @@ pair = record {
 abbrev before : List Tick
 before = record { 0 = pos 1000000000001 } ∷ record { 0 = pos 12345 } ∷ []
 
-first_from_below : lower_light pair before 0 ≡ 436557458652
+first_from_below : next_low pair before 0 ≡ 436557458652
 unfolding computed
 first_from_below = refl
 
-first_from_above : upper_light pair before 0 ≡ 436557458669
+first_from_above : next_high pair before 0 ≡ 436557458669
 unfolding computed
 first_from_above = refl
 
-second_from_below : lower_light pair before 1 ≡ 291038304676
+second_from_below : next_low pair before 1 ≡ 291038304676
 unfolding computed
 second_from_below = refl
 
-second_from_above : upper_light pair before 1 ≡ 291038304708
+second_from_above : next_high pair before 1 ≡ 291038304708
 unfolding computed
 second_from_above = refl
 

@@ -1,13 +1,9 @@
 -- A claim on the solution that a system of ticks shows by one multiplication. s ticks are one.
-use Rattle.std.specs.Prelude.{ℕ, ◌+◌, ◌-◌, ◌*◌, ◌/◌, ◌<◌, ◌≤◌}
+use Rattle.std.specs.Prelude.{ℕ, ◌+◌, ◌*◌, ◌<◌, ◌≤◌}
 use Rattle.interval_system.specs.Whole.{total}
-
+use Rattle.fx_base.specs.Rounded.{down_to, up_to}
 -- x / s rounded down, and up
-unfoldable pub down_to : ℕ → ℕ → ℕ
-down_to s x = x / s
-
-unfoldable pub up_to : ℕ → ℕ → ℕ
-up_to s x = (x + (s - 1)) / s
+unfoldable pub use Rattle.fx_base.specs.Rounded.{down_to, up_to}
 
 -- the direct light at patch i and what the light x of the n patches sends there, each product rounded down, or up
 abbrev pub lower_sum : ℕ → ℕ → (ℕ → ℕ → ℕ) → (ℕ → ℕ) → (ℕ → ℕ) → ℕ → ℕ

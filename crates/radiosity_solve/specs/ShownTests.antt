@@ -2,18 +2,6 @@
 use Rattle.std.specs.Prelude.{ℕ, ◌≡◌, refl}
 use Rattle.radiosity_solve.specs.Shown.{down_to, up_to, lower_sum, upper_sum}
 
-rounds_down : down_to 4 7 ≡ 1
-unfolding down_to
-rounds_down = refl
-
-rounds_up : up_to 4 5 ≡ 2
-unfolding up_to
-rounds_up = refl
-
-rounds_nothing : up_to 4 8 ≡ 2
-unfolding up_to
-rounds_nothing = refl
-
 -- 2 lux are shown from both sides: what they send is 2 lux again
 half : ℕ → ℕ → ℕ
 half i j = 34359738368

@@ -6,18 +6,18 @@ use Rattle.radiosity_solve.specs.Shown.{lower_sum, upper_sum}
 use Rattle.radiosity_solve.specs.Bounds.{tick_at, no_tick}
 
 -- the light that the list x gives to patch i, of the lower ends and of the upper ends
-unfoldable pub lower_light : System → List Tick → ℕ → ℕ
-lower_light s x i = lower_sum (length s.rows) 68719476736 (low_weight s) (low_direct s) (tick_at x) i
+unfoldable pub next_low : System → List Tick → ℕ → ℕ
+next_low s x i = lower_sum (length s.rows) 68719476736 (low_weight s) (low_direct s) (tick_at x) i
 
-unfoldable pub upper_light : System → List Tick → ℕ → ℕ
-upper_light s x i = upper_sum (length s.rows) 68719476736 (high_weight s) (high_direct s) (tick_at x) i
+unfoldable pub next_high : System → List Tick → ℕ → ℕ
+next_high s x i = upper_sum (length s.rows) 68719476736 (high_weight s) (high_direct s) (tick_at x) i
 
 -- `into` is that light at each patch
 pub record IsLowerTurn (s : System) (from into : List Tick) : Type 0 where
-  pub row : (i : ℕ) → i < length s.rows → slice_index_or into i no_tick ≡ record { 0 = pos (lower_light s from i) }
+  pub row : (i : ℕ) → i < length s.rows → slice_index_or into i no_tick ≡ record { 0 = pos (next_low s from i) }
 
 pub record IsUpperTurn (s : System) (from into : List Tick) : Type 0 where
-  pub row : (i : ℕ) → i < length s.rows → slice_index_or into i no_tick ≡ record { 0 = pos (upper_light s from i) }
+  pub row : (i : ℕ) → i < length s.rows → slice_index_or into i no_tick ≡ record { 0 = pos (next_high s from i) }
 
 -- no number of the two lists differs by more than `most` ticks
 pub record IsChangedBy (most : ℕ) (from into : List Tick) : Type 0 where

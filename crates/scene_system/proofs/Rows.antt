@@ -1,5 +1,5 @@
 -- Row sums in ticks against the row sums of the coefficients.
-use Rattle.std.proofs.Common.{ℕ, zero, suc, ◌+◌, ◌<◌, ◌≤◌, ◌≡◌, refl, sym, ap, ◌∙◌, List, [], ◌∷◌, length, get_or, sum_by, arith, lit≤, lit<}
+use Rattle.std.proofs.Common.{ℕ, zero, suc, ◌+◌, ◌<◌, ◌≤◌, ◌≡◌, refl, ap, ◌∙◌, List, [], ◌∷◌, length, get_or, sum_by, arith, lit≤, lit<}
 use Rattle.std.proofs.lemmas.List.Elements.{All-get_or}
 use Rattle.std.proofs.lemmas.List.Sums.{sum_by-cons}
 use Rattle.fx_base.specs.declared.Weight.{Weight}
@@ -12,6 +12,7 @@ use Rattle.fx_base.proofs.Sums.{sum_to_le, sum_to_add, sum_to_most, ticks_le, ti
 use Rattle.interval_system.specs.Radiosity.{Enclosures, AreRowsBelowOne}
 use Rattle.interval_system.specs.Equations.{RowsBelowOne}
 use Rattle.interval_system.specs.Whole.{total}
+use Rattle.interval_system.proofs.Totals.{total-first, sum_by-total}
 use Rattle.interval_system.specs.System.{IsSystem, NoneHeavy, no_weight, weight_at, high_weight, upper_total}
 use Rattle.room_layout.specs.Accepted.{IsAccepted}
 use Rattle.room_layout.specs.Place.{Place}
@@ -60,15 +61,6 @@ sum_below_one n t f few light h =
     below_one
 
 -- ---- the rows of a scene
-
-total-first : (n : ℕ) (g : ℕ → ℕ) → total (suc n) g ≡ g 0 + total n (λ j. g (suc j))
-total-first zero g = omega arith
-total-first (suc n) g = omega (arith, total-first n g)
-
-sum_by-total : {X : Type 0} (f : X → ℕ) (xs : List X) (d : X) → sum_by f xs ≡ total (length xs) (λ j. f (get_or xs j d))
-sum_by-total f [] d = refl
-sum_by-total f (x ∷ xs) d =
-    sum_by-cons f x xs ∙ ap (λ (z : ℕ). f x + z) (sum_by-total f xs d) ∙ sym (total-first (length xs) (λ j. f (get_or (x ∷ xs) j d)))
 
 -- the first n of a list, or more, where what is beyond it counts 0
 total-at-most : {X : Type 0} (f : X → ℕ) (xs : List X) (d : X) (n : ℕ) → f d ≡ 0 → total n (λ j. f (get_or xs j d)) ≤ sum_by f xs

@@ -1,6 +1,7 @@
 -- Sums f 0 + .. + f (n - 1) of whole numbers.
-use Rattle.std.proofs.Common.{ℕ, zero, suc, ◌+◌, ◌*◌, ◌<◌, ◌≤◌, ◌≡◌, refl, ap, inl, inr, arith}
+use Rattle.std.proofs.Common.{ℕ, zero, suc, ◌+◌, ◌*◌, ◌<◌, ◌≤◌, ◌≡◌, refl, sym, ap, ◌∙◌, inl, inr, List, [], ◌∷◌, length, get_or, sum_by, arith}
 use Rattle.std.proofs.lemmas.Bool.{cases_lt}
+use Rattle.std.proofs.lemmas.List.Sums.{sum_by-cons}
 use Rattle.interval_system.specs.Whole.{total}
 
 pub total-le : (n : ℕ) (f g : ℕ → ℕ) → ((j : ℕ) → j < n → f j ≤ g j) → total n f ≤ total n g
@@ -41,3 +42,11 @@ at-le-total (suc n) f i l = elim (cases_lt i n) [
 pub total-first : (n : ℕ) (f : ℕ → ℕ) → total (suc n) f ≡ f 0 + total n (λ j. f (suc j))
 total-first zero f = omega arith
 total-first (suc n) f = omega (arith, total-first n f)
+
+-- the sum over a list is that over its places
+pub sum_by-total : {X : Type 0} (f : X → ℕ) (xs : List X) (d : X) → sum_by f xs ≡ total (length xs) (λ j. f (get_or xs j d))
+sum_by-total f [] d = refl
+sum_by-total f (x ∷ xs) d =
+    let first : total (suc (length xs)) (λ j. f (get_or (x ∷ xs) j d)) ≡ f x + total (length xs) (λ j. f (get_or xs j d))
+    = total-first (length xs) (λ j. f (get_or (x ∷ xs) j d)) in
+    sum_by-cons f x xs ∙ ap (λ (z : ℕ). f x + z) (sum_by-total f xs d) ∙ sym first

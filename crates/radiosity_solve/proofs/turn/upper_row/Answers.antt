@@ -1,6 +1,0 @@
-use Rattle.std.proofs.Common.{◌∙◌, arith}
-use Rattle.radiosity_solve.proofs.Steps.{upper_end}
-use Rattle.radiosity_solve.proofs.turn.upper_row.Goals as goal
-
-pub returns-clause-light : goal.returns-clause-light
-returns-clause-light c = c.loop-j.invariant.so_far ∙ upper_end c.args.system.now c.args.from.now c.args.i c.loop-j.j (omega arith)
