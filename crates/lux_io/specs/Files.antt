@@ -1,5 +1,5 @@
 -- What a shelf of files and a sink of bytes hold, and what a call of theirs may do.
-use Rattle.std.specs.Prelude.{◌≡◌, ◌≢◌, ℕ, ◌+◌, ◌-◌, ◌^◌, ◌<◌, ◌≤◌, min, List, [], ◌∷◌, ◌++◌, length, take, drop, Option, Some, None, Result, OnErr, if◌then◌else◌}
+use Rattle.std.specs.Prelude.{◌≡◌, ◌≢◌, ℕ, ◌+◌, ◌-◌, ◌^◌, ◌<◌, ◌≤◌, min, List, [], ◌∷◌, ◌++◌, length, take, drop, Option, Some, None, Result, OnErr, OnOk, if◌then◌else◌}
 use Rattle.std.specs.Option.{option_map}
 use Rattle.std.specs.Str.{bytes_eq}
 
@@ -8,23 +8,29 @@ abbrev pub bytes_of : List ℕ → List (List ℕ × List ℕ) → Option (List 
 bytes_of name [] = None
 bytes_of name (file ∷ files) = if bytes_eq file.0 name then Some file.1 else bytes_of name files
 
--- a count rose, or stands at the last value that a counter of 64 bits has
+-- what a counter of 64 bits shows after one more: it stays at its last value
+abbrev pub one_more : ℕ → ℕ
+one_more count = min (count + 1) (2 ^ 64 - 1)
+
+-- a count rose, or stands at its last value
 abbrev pub Rose : ℕ → ℕ → Type 0
-Rose before now = min (before + 1) (2 ^ 64 - 1) ≤ now
+Rose before now = one_more before ≤ now
 
 -- a count neither rose nor stands at a counter's last value: what it counts didn't happen
 abbrev pub Stood : ℕ → ℕ → Type 0
 Stood before now = (now ≡ before) × (now < 2 ^ 64 - 1)
 
--- a count that doesn't fall, and that rose where this was answered
+-- a count that shows one more where this was answered, and stands where it wasn't
 pub record Counted (before now : ℕ) (answered : Type 0) : Type 0 where
   pub later : before ≤ now
-  pub cause : answered → Rose before now
+  pub cause : answered → now ≡ one_more before
+  pub only : (answered → ⊥) → now ≡ before
 
--- a count that doesn't fall, and that rose where the call failed
+-- a count that shows one more where the call failed, and stands where it didn't
 pub record HasCause {T E : Type 0} (before now : ℕ) (result : Result T E) : Type 0 where
   pub later : before ≤ now
-  pub cause : OnErr result (Rose before now)
+  pub cause : OnErr result (now ≡ one_more before)
+  pub only : OnOk result (now ≡ before)
 
 -- The front of the piece has the next n bytes of a file of which so many were taken, and n is 0 only at the file's end.
 pub record ReadsNext (file : List ℕ) (taken : ℕ) (piece : List ℕ) (n : ℕ) : Type 0 where

@@ -1,7 +1,7 @@
 -- The words of `Files` on small examples.
 use Rattle.std.specs.Prelude.{ℕ, ◌≡◌, ◌^◌, ◌-◌, [], ◌∷◌, Some, None, Ok, Err, true, false, refl}
 use Rattle.std.proofs.Common.{lit<, lit≤}
-use Rattle.lux_io.specs.Files.{AddsPrefix, Counted, HasCause, ReadsNext, Rose, Stood, bytes_of, with_bytes}
+use Rattle.lux_io.specs.Files.{AddsPrefix, Counted, HasCause, ReadsNext, Rose, Stood, bytes_of, one_more, with_bytes}
 
 -- of two files of one name the first counts
 first_of_the_name : bytes_of (98 ∷ []) ((97 ∷ [], 1 ∷ []) ∷ (98 ∷ [], 2 ∷ 3 ∷ []) ∷ (98 ∷ [], 4 ∷ []) ∷ []) ≡ Some (2 ∷ 3 ∷ [])
@@ -11,12 +11,18 @@ first_of_the_name = refl
 no_such_name : bytes_of (97 ∷ []) ((97 ∷ 98 ∷ [], 1 ∷ []) ∷ []) ≡ None
 no_such_name = refl
 
-one_more : Rose 4 5
-one_more = lit≤ tt
+counted_on : one_more 4 ≡ 5
+counted_on = refl
+
+rose_by_one : Rose 4 5
+rose_by_one = lit≤ tt
 
 -- at the last value of a counter nothing more can be counted
 at_the_last_value : Rose (2 ^ 64 - 1) (2 ^ 64 - 1)
 at_the_last_value = lit≤ tt
+
+last_value : one_more (2 ^ 64 - 1) ≡ 2 ^ 64 - 1
+last_value = refl
 
 no_more : Stood 4 4
 no_more = (refl, lit< tt)
@@ -42,12 +48,12 @@ untold = refl
 
 -- a failure was counted
 failed : HasCause {T = ℕ} {E = ℕ} 4 5 (Err 0)
-failed = record { later = lit≤ tt; cause = lit≤ tt }
+failed = record { later = lit≤ tt; cause = refl; only = tt }
 
 -- a call went well, and nothing was counted
 went_well : HasCause {T = ℕ} {E = ℕ} 4 4 (Ok 0)
-went_well = record { later = lit≤ tt; cause = tt }
+went_well = record { later = lit≤ tt; cause = tt; only = refl }
 
 -- nothing was answered, and nothing was counted
 not_answered : Counted 4 4 (false ≡ true)
-not_answered = record { later = lit≤ tt; cause = λ answered. cc }
+not_answered = record { later = lit≤ tt; cause = λ answered. cc; only = λ _. refl }

@@ -1,5 +1,6 @@
-// The files of a folder, as the operating system has them.
-ghost use Rattle.std.specs.Prelude.{◌≡◌, None, [], false};
+//! The files of a folder, as the operating system has them.
+ghost use Rattle.std.specs.Prelude.{◌≡◌, ◌+◌, ◌^◌, ◌<◌, ◌≤◌, true, false, length, IfOk, IfSome, OnOk, OnErr};
+ghost use Rattle.lux_io.specs.Files.{HasCause, ReadsNext};
 
 use crate::count::count_one;
 use crate::{OpenFault, ReadFailed, Shelf};
@@ -38,13 +39,13 @@ impl<R: Files> FolderShelf<'_, R> {
 }
 
 impl<R: Files> Shelf for FolderShelf<'_, R> {
-    ghost use Rattle.lux_io.specs.Adapters.{folder_is_open, folder_taken, folder_faults, folder_absences};
+    ghost use Rattle.lux_io.specs.Adapters.{folder_file, folder_files, folder_is_open, folder_taken, folder_rest, folder_faults, folder_absences, TakesNext};
 
-    ghost files = { λ _. None };
+    ghost files = { λ shelf. folder_files shelf };
 
     ghost is_open = { λ shelf. folder_is_open shelf };
 
-    ghost file = { λ _. [] };
+    ghost file = { λ shelf. folder_file shelf };
 
     ghost taken = { λ shelf. folder_taken shelf };
 
@@ -72,7 +73,26 @@ impl<R: Files> Shelf for FolderShelf<'_, R> {
         }
     }
 
-    fn read(&mut self, piece: &mut [u8]) -> Result<usize, ReadFailed> {
+    fn read(&mut self, piece: &mut [u8]) -> Result<usize, ReadFailed>
+        requires open { folder_is_open self.old ≡ true }
+        requires taken { folder_taken self.old < 2 ^ 32 }
+        requires piece { length piece.old ≤ 65536 }
+        ensures files { folder_files self.new ≡ folder_files self.old }
+        ensures bound { IfOk result (λ n. n ≤ length piece.new) }
+        ensures stays_open { OnOk result (folder_is_open self.new ≡ true) }
+        ensures file { OnOk result (folder_file self.new ≡ folder_file self.old) }
+        ensures taken { IfOk result (λ n. folder_taken self.new ≡ folder_taken self.old + n) }
+
+        ensures told { IfOk result (λ n. IfSome (folder_files self.old) (λ _. ReadsNext (folder_file self.old) (folder_taken self.old) piece.new n)) }
+
+        // Nothing of the file is left out, changed, or called its end.
+        ensures next { IfOk result (λ n. TakesNext (folder_rest R.File.remaining self.old) (folder_rest R.File.remaining self.new) piece.new n) }
+
+        ensures closed { OnErr result (folder_is_open self.new ≡ false) }
+        ensures untaken { OnErr result (folder_taken self.new ≡ folder_taken self.old) }
+        ensures faults { HasCause (folder_faults self.old) (folder_faults self.new) result }
+        ensures absences { folder_absences self.new ≡ folder_absences self.old }
+    {
         if let Some(file) = &mut self.file {
             if let Ok(count) = file.read(piece) {
                 self.taken += count as u64;

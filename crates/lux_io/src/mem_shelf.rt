@@ -1,8 +1,8 @@
-// A shelf in memory, for tests: its files are told, and chosen calls fail.
+//! A shelf in memory, for tests: its files are told, and chosen calls fail.
 ghost use Rattle.std.specs.Prelude.{◌≡◌, ◌≢◌, ◌↔◌, ◌+◌, ◌-◌, ◌^◌, ◌<◌, ◌≤◌, [], true, false, min, Some, length, Contains, IfOk, OnOk, OnErr, IsErr, map, position};
 ghost use Rattle.std.specs.Str.{bytes_eq};
 ghost use Rattle.std.specs.String.{string_bytes};
-ghost use Rattle.lux_io.specs.Files.{bytes_of, Counted, HasCause, Puts, ReadsNext};
+ghost use Rattle.lux_io.specs.Files.{bytes_of, Counted, HasCause, Puts, ReadsNext, one_more};
 ghost use Rattle.lux_io.specs.MemShelf.{named};
 
 use crate::count::{count_one, next_call_fails};
@@ -43,9 +43,7 @@ impl MemShelf {
         ensures faults { IfOk result (λ shelf. shelf_faults shelf ≡ 0) }
         ensures absences { IfOk result (λ shelf. shelf_absences shelf ≡ 0) }
     {
-        let Ok(failing) = Vec::from_slice(alloc, failing) else {
-            return Err(Memory);
-        };
+        let failing = Vec::from_slice(alloc, failing)?;
         Ok(MemShelf {
             alloc,
             files: Vec::new(alloc),
@@ -75,39 +73,33 @@ impl MemShelf {
     }
 }
 
-// The place of the first file of this name.
+/// The place of the first file of this name.
 fn place_of(files: &[Stored], name: &str) -> Option<usize>
     ensures { result ≡ position (λ stored. bytes_eq (string_bytes stored.name) name.now) files.now }
 {
     files.iter().position(|stored| stored.name.as_str() == name)
 }
 
-// Puts a file under this name, in the place of the one that has it or after all others.
+/// Puts a file under this name, in the place of the one that has it or after all others.
 fn put_file(alloc: Global, files: &mut Vec<Stored>, name: &str, bytes: &[u8]) -> Result<(), Memory>
     ensures put { OnOk result (Puts (map named files.old.items) (map named files.new.items) name.now bytes.now) }
     ensures as_before { OnErr result (files.new.items ≡ files.old.items) }
 {
-    let Ok(bytes) = Vec::from_slice(alloc, bytes) else {
-        return Err(Memory);
-    };
+    let bytes = Vec::from_slice(alloc, bytes)?;
     match place_of(files, name) {
         Some(place) => {
             files[place].bytes = bytes;
             Ok(())
         }
         None => {
-            let Ok(name) = String::from_str(alloc, name) else {
-                return Err(Memory);
-            };
-            let Ok(()) = files.push(Stored { name, bytes }) else {
-                return Err(Memory);
-            };
+            let name = String::from_str(alloc, name)?;
+            files.push(Stored { name, bytes })?;
             Ok(())
         }
     }
 }
 
-// Copies the bytes after the first `taken` of a file into the front of the piece, as many as there are and as fit.
+/// Copies the bytes after the first `taken` of a file into the front of the piece, as many as there are and as fit.
 fn copy_next(file: &[u8], taken: usize, piece: &mut [u8]) -> usize
     ensures bound { result ≤ length piece.new }
     ensures next { ReadsNext file.now taken piece.new result }
@@ -145,14 +137,12 @@ impl Shelf for MemShelf {
 
         ensures absent { result ≡ Err OpenFault.Absent → bytes_of name.now (shelf_files self.old) ≡ None }
         ensures absences { Counted (shelf_absences self.old) (shelf_absences self.new) (result ≡ Err OpenFault.Absent) }
-        ensures present { result ≢ Err OpenFault.Absent → shelf_absences self.new ≡ shelf_absences self.old }
 
-        // It fails exactly where the call's number is in the list, and counts no other fault.
+        // It fails exactly where the call's number is in the list.
         ensures fails { (result ≡ Err OpenFault.Failed) ↔ Contains (shelf_failing self.old) (shelf_calls self.old) }
         ensures faults { Counted (shelf_faults self.old) (shelf_faults self.new) (result ≡ Err OpenFault.Failed) }
-        ensures no_fault { result ≢ Err OpenFault.Failed → shelf_faults self.new ≡ shelf_faults self.old }
         ensures failing { shelf_failing self.new ≡ shelf_failing self.old }
-        ensures calls { shelf_calls self.new ≡ min (shelf_calls self.old + 1) (2 ^ 64 - 1) }
+        ensures calls { shelf_calls self.new ≡ one_more (shelf_calls self.old) }
     {
         self.at = self.files.len();
         self.taken = 0;
@@ -187,12 +177,11 @@ impl Shelf for MemShelf {
         ensures untaken { OnErr result (shelf_taken self.new ≡ shelf_taken self.old) }
         ensures absences { shelf_absences self.new ≡ shelf_absences self.old }
 
-        // It fails exactly where the call's number is in the list, and counts no other fault.
+        // It fails exactly where the call's number is in the list.
         ensures fails { IsErr result ↔ Contains (shelf_failing self.old) (shelf_calls self.old) }
         ensures faults { HasCause (shelf_faults self.old) (shelf_faults self.new) result }
-        ensures no_fault { OnOk result (shelf_faults self.new ≡ shelf_faults self.old) }
         ensures failing { shelf_failing self.new ≡ shelf_failing self.old }
-        ensures calls { shelf_calls self.new ≡ min (shelf_calls self.old + 1) (2 ^ 64 - 1) }
+        ensures calls { shelf_calls self.new ≡ one_more (shelf_calls self.old) }
     {
         if next_call_fails(&self.failing, &mut self.calls) {
             self.at = self.files.len();

@@ -1,6 +1,6 @@
-// A sink in memory, for tests: what was written is told, and it can be full or fail at chosen calls.
+//! A sink in memory, for tests: what was written is told, and it can be full or fail at chosen calls.
 ghost use Rattle.std.specs.Prelude.{◌≡◌, ◌↔◌, ◌⊎◌, ◌+◌, ◌-◌, ◌^◌, ◌<◌, ◌≤◌, [], ◌++◌, length, take, min, Some, Contains, IfOk, OnOk, OnErr, IsErr, vec_len, vec_capacity};
-ghost use Rattle.lux_io.specs.Files.{HasCause};
+ghost use Rattle.lux_io.specs.Files.{HasCause, one_more};
 
 use crate::count::{count_one, next_call_fails};
 use crate::{Sink, WriteFailed};
@@ -32,12 +32,8 @@ impl MemSink {
         ensures calls { IfOk result (λ sink. sink_calls sink ≡ 0) }
         ensures faults { IfOk result (λ sink. sink_faults sink ≡ 0) }
     {
-        let Ok(failing) = Vec::from_slice(alloc, failing) else {
-            return Err(Memory);
-        };
-        let Ok(bytes) = Vec::with_capacity(alloc, capacity) else {
-            return Err(Memory);
-        };
+        let failing = Vec::from_slice(alloc, failing)?;
+        let bytes = Vec::with_capacity(alloc, capacity)?;
         Ok(MemSink {
             bytes,
             capacity,
@@ -68,14 +64,13 @@ impl Sink for MemSink {
         ensures bytes { IfOk result (λ n. sink_bytes self.new ≡ sink_bytes self.old ++ take n piece.now) }
         ensures none { OnErr result (sink_bytes self.new ≡ sink_bytes self.old) }
 
-        // It fails exactly where the call's number is in the list or there is no room for a byte, and counts no other fault.
+        // It fails exactly where the call's number is in the list or there is no room for a byte.
         ensures fails { IsErr result ↔ (Contains (sink_failing self.old) (sink_calls self.old)
             ⊎ ((sink_capacity self.old ≤ length (sink_bytes self.old)) × (0 < length piece.now))) }
         ensures faults { HasCause (sink_faults self.old) (sink_faults self.new) result }
-        ensures no_fault { OnOk result (sink_faults self.new ≡ sink_faults self.old) }
         ensures capacity { sink_capacity self.new ≡ sink_capacity self.old }
         ensures failing { sink_failing self.new ≡ sink_failing self.old }
-        ensures calls { sink_calls self.new ≡ min (sink_calls self.old + 1) (2 ^ 64 - 1) }
+        ensures calls { sink_calls self.new ≡ one_more (sink_calls self.old) }
     {
         let count = piece.len().min(self.capacity - self.bytes.len());
         if next_call_fails(&self.failing, &mut self.calls) || (count == 0 && !piece.is_empty()) {

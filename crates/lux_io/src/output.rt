@@ -1,10 +1,10 @@
-// Standard output.
+//! Standard output.
 ghost use Rattle.std.specs.Prelude.{◌≡◌, None};
 
 use crate::count::count_one;
 use crate::{Sink, WriteFailed};
 
-/// Standard output. It doesn't tell what was written. A call that takes nothing of a piece that isn't empty is a fault.
+///! Standard output. It doesn't tell what was written. A call that takes nothing of a piece that isn't empty is a fault.
 #[derive(Drop)]
 pub struct OutSink<'a, R: Print> {
     rt: &'a R,

@@ -1,4 +1,4 @@
-// A whole text into a sink.
+//! A whole text into a sink.
 ghost use Rattle.std.specs.Prelude.{◌≡◌, OnOk, OnErr};
 ghost use Rattle.lux_io.specs.Files.{AddsPrefix, HasCause, with_bytes};
 

@@ -1,4 +1,4 @@
-// Where files are read from: one file at a time, from its first byte to its last.
+//! Where files are read from: one file at a time, from its first byte to its last.
 ghost use Rattle.std.specs.Prelude.{◌≡◌, ℕ, ◌+◌, ◌^◌, ◌<◌, ◌≤◌, List, length, true, false, Bool, Option, IfOk, OnOk, OnErr, IfSome};
 ghost use Rattle.lux_io.specs.Files.{bytes_of, Counted, HasCause, ReadsNext};
 
@@ -18,7 +18,7 @@ pub struct ReadFailed;
 /// Files by name, of which one at a time can be open.
 ///
 /// A shelf may tell which files it holds; then that never changes, and what is read is what it tells. It counts its faults and
-/// how often a name wasn't there. Neither count falls, and each stays at 2^64 - 1 once it is there.
+/// how often a name wasn't there: each such answer is one more, and no other call is counted; at 2^64 - 1 a count stays.
 pub trait Shelf {
     /// The files, a name and bytes each. `None`: the shelf doesn't tell.
     ghost files: { Self → Option (List (List ℕ × List ℕ)) };
@@ -66,5 +66,5 @@ pub trait Shelf {
         ensures closed { OnErr result (is_open self.new ≡ false) }
         ensures untaken { OnErr result (taken self.new ≡ taken self.old) }
         ensures faults { HasCause (faults self.old) (faults self.new) result }
-        ensures absences { absences self.old ≤ absences self.new };
+        ensures absences { absences self.new ≡ absences self.old };
 }

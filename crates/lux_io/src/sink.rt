@@ -1,4 +1,4 @@
-// Where bytes are written to.
+//! Where bytes are written to.
 ghost use Rattle.std.specs.Prelude.{◌≡◌, ℕ, ◌<◌, ◌≤◌, List, length, take, Option, IfOk, OnErr};
 ghost use Rattle.lux_io.specs.Files.{HasCause, with_bytes};
 
@@ -6,8 +6,8 @@ ghost use Rattle.lux_io.specs.Files.{HasCause, with_bytes};
 #[derive(Clone, Copy, Debug, PartialEq, Eq)]
 pub struct WriteFailed;
 
-/// A sink of bytes. It may tell what was written so far, and counts its faults: that count doesn't fall, and stays at 2^64 - 1
-/// once it is there.
+/// A sink of bytes. It may tell what was written so far, and counts its faults: each failed call is one more, and no other
+/// call is counted; at 2^64 - 1 the count stays.
 pub trait Sink {
     /// The bytes written so far. `None`: the sink doesn't tell.
     ghost written: { Self → Option (List ℕ) };

@@ -1,4 +1,4 @@
-// A whole file from a shelf.
+//! A whole file from a shelf.
 ghost use Rattle.std.specs.Prelude.{◌≡◌, ◌≢◌, ◌↔◌, ◌+◌, ◌^◌, ◌<◌, ◌≤◌, length, vec_len, IfOk, IfSome, IsSomeAnd};
 ghost use Rattle.lux_io.specs.Files.{bytes_of, Counted, Stood};
 
@@ -51,7 +51,7 @@ impl From<AllocError> for TakeFault {
     }
 }
 
-// How many bytes a read asks for at most.
+/// How many bytes a read asks for at most.
 const PIECE: usize = 4096;
 
 /// The whole file of this name, if it has at most `limit` bytes. At most one byte more than that is taken.

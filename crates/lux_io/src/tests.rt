@@ -1,9 +1,9 @@
-// What no clause says: that calls succeed with ample memory, and that the adapters reach the real files and output.
-use crate::{FolderShelf, MemShelf, MemSink, OutSink, PutFault, TakeFault, put_all, take_file};
-use std::cell::Cell;
-use std::fmt::Display;
+//! What no clause says: that calls succeed with ample memory, and that the adapters reach the real files and output.
+mod folder;
+mod output;
+
+use crate::{MemShelf, MemSink, PutFault, TakeFault, put_all, take_file};
 use std::test::Fail;
-use std::{fs, io, process};
 
 #[test]
 fn a_file_is_taken_whole_up_to_the_limit(rt: HostRuntime) -> Result<(), Fail> {
@@ -75,76 +75,5 @@ fn a_chosen_write_fails(rt: HostRuntime) -> Result<(), Fail> {
     assert_eq!(rt; put_all(&mut sink, b"two\n"), Err(PutFault));
     assert_eq!(rt; put_all(&mut sink, b"three\n"), Ok(()));
     assert_eq!(rt; sink.bytes(), b"one\nthree\n".as_slice());
-    Ok(())
-}
-
-#[test]
-fn a_real_file_is_read(rt: HostRuntime) -> Result<(), Fail> {
-    let alloc = rt.alloc();
-    let id = process::id(rt.process());
-    let path = format!(in alloc; "/tmp/lux_io_{id}.toml")?;
-    let name = path.as_str();
-    fs::write(&rt, name, "version = 1")?;
-    let mut shelf = FolderShelf::new(&rt);
-    let bytes = take_file(alloc, &mut shelf, name, 100)?;
-    assert_eq!(rt; bytes.as_slice(), b"version = 1".as_slice());
-    fs::remove_file(&rt, name)?;
-    let missing = take_file(alloc, &mut shelf, name, 100);
-    assert_eq!(rt; missing.err(), Some(TakeFault::Absent));
-    // A folder can be opened, and not read.
-    let folder = take_file(alloc, &mut shelf, "/tmp", 100);
-    assert_eq!(rt; folder.err(), Some(TakeFault::Failed));
-    Ok(())
-}
-
-#[test]
-fn standard_output_takes_bytes(rt: HostRuntime) -> Result<(), Fail> {
-    let mut out = OutSink::new(&rt);
-    assert_eq!(rt; put_all(&mut out, b"a line on standard output\n"), Ok(()));
-    Ok(())
-}
-
-// An output that takes one byte at a call, the next of the wanted ones, and no other.
-#[derive(Drop)]
-struct ByteByByte {
-    wanted: &'static [u8],
-    taken: Cell<usize>,
-}
-
-impl Print for ByteByByte {
-    fn print<D: Display + Drop>(&self, _: D) -> io::Result<()> {
-        Ok(())
-    }
-
-    fn println<D: Display + Drop>(&self, _: D) -> io::Result<()> {
-        Ok(())
-    }
-
-    fn write_all(&self, _: &[u8]) -> io::Result<()> {
-        Ok(())
-    }
-
-    fn write_some(&self, bytes: &[u8]) -> io::Result<usize> {
-        let taken = self.taken.get();
-        if taken < self.wanted.len() && bytes.first() == self.wanted.get(taken) {
-            self.taken.set(taken + 1);
-            return Ok(1);
-        }
-        Err(io::ErrorKind::BrokenPipe.into())
-    }
-}
-
-#[test]
-fn an_output_that_takes_a_byte_at_a_time_gets_all(rt: HostRuntime) -> Result<(), Fail> {
-    let line = b"average 555.55 555.56\n";
-    let to = ByteByByte {
-        wanted: line.as_slice(),
-        taken: Cell::new(0),
-    };
-    let mut out = OutSink::new(&to);
-    assert_eq!(rt; put_all(&mut out, line), Ok(()));
-    assert_eq!(rt; to.taken.get(), 22);
-    // It takes nothing more, which is a fault.
-    assert_eq!(rt; put_all(&mut out, b"more"), Err(PutFault));
     Ok(())
 }

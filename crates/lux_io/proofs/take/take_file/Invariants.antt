@@ -12,8 +12,8 @@ invariant-loop-bytes g l = record {
   told : IfSome (g.S.Shelf.files l.fn.shelf) (λ fs. bytes_of l.name fs ≡ Some (g.S.Shelf.file l.shelf));
   within : IfSome (g.S.Shelf.files l.fn.shelf) (λ _. vec_len l.bytes ≤ length (g.S.Shelf.file l.shelf));
   front : IfSome (g.S.Shelf.files l.fn.shelf) (λ _. l.bytes.items ≡ take (vec_len l.bytes) (g.S.Shelf.file l.shelf));
-  later_faults : g.S.Shelf.faults l.fn.shelf ≤ g.S.Shelf.faults l.shelf;
-  later_absences : g.S.Shelf.absences l.fn.shelf ≤ g.S.Shelf.absences l.shelf;
+  no_fault : g.S.Shelf.faults l.shelf ≡ g.S.Shelf.faults l.fn.shelf;
+  no_absence : g.S.Shelf.absences l.shelf ≡ g.S.Shelf.absences l.fn.shelf;
 }
 
 abbrev pub decreases-loop-bytes : goal.decreases-loop-bytes
