@@ -15,7 +15,7 @@ use Rattle.interval_system.specs.Whole.{denominator, numerator}
 use Rattle.interval_system.specs.System.{System, low_weight, high_weight, low_direct, high_direct}
 use Rattle.radiosity_solve.specs.Shown.{down_to, up_to, lower_sum, upper_sum, IsShownLower, IsShownUpper}
 use Rattle.radiosity_solve.specs.Bounds.{IsEnd, tick_at, no_tick, IsUniquelySolved, IsBelowEverySolution, IsAboveEverySolution, lower_solution, upper_solution, ten_thousandth, IsLowerAnswer, IsUpperAnswer, IsInOrder}
-use Rattle.radiosity_solve.specs.Turn.{next_low, next_high, IsLowerTurn, IsUpperTurn, IsChangedBy}
+use Rattle.radiosity_solve.specs.Turn.{next_low, next_high, IsLowerTurn, IsUpperTurn, IsChangedBy, IsRiseBy}
 use Rattle.interval_system.proofs.Totals.{total-le, total-same, total-scale}
 use Rattle.radiosity_solve.proofs.Pairs.{SolvesPlainly, none, plain-solves}
 use Rattle.radiosity_solve.proofs.Elimination.{eliminated}
@@ -144,15 +144,20 @@ pub upper_falls : (s : System) (x y : List Tick) → IsShownUpper (length s.rows
     → IsUpperTurn s x y → (i : ℕ) → i < length s.rows → tick_at y i ≤ tick_at x i
 upper_falls s x y shown t i l = omega (arith, upper_made s x y t i l, shown.row i l)
 
+-- what a turn makes of a shown claim is shown
+pub upper_shown : (s : System) (x y : List Tick) → IsShownUpper (length s.rows) 68719476736 (high_weight s) (high_direct s) (tick_at x)
+    → IsUpperTurn s x y → IsShownUpper (length s.rows) 68719476736 (high_weight s) (high_direct s) (tick_at y)
+upper_shown s x y shown turn = record {
+  row = λ i l. omega (
+    arith,
+    upper_made s x y turn i l,
+    upper_sum-rises (length s.rows) (high_weight s) (high_direct s) (tick_at y) (tick_at x) (λ j w. upper_falls s x y shown turn j w) i,
+  );
+}
+
 pub upper_turned : (s : System) (x y : List Tick) (t : ℕ) → AreMild s → IsUpperState s x t → IsUpperTurn s x y → IsUpperState s y (t + 1)
 upper_turned s x y t a state turn = record {
-  shown = record {
-    row = λ i l. omega (
-      arith,
-      upper_made s x y turn i l,
-      upper_sum-rises (length s.rows) (high_weight s) (high_direct s) (tick_at y) (tick_at x) (λ j w. upper_falls s x y state.shown turn j w) i,
-    );
-  };
+  shown = upper_shown s x y state.shown turn;
   near = λ i l.
       let n : ℕ = length s.rows in
       let m : ℕ = denominator n 68719476736 (high_weight s) in
@@ -174,13 +179,19 @@ next_high-is s x i = refl
 end-size : (x : List Tick) (i : ℕ) → i < length x → All IsEnd x → tick_at x i ≤ 2 ^ 90
 end-size x i l ends = end_small (get_or x i no_tick) (All-get_or IsEnd x i no_tick l ends)
 
-pub upper_in_range : (s : System) (x y : List Tick) → IsShownUpper (length s.rows) 68719476736 (high_weight s) (high_direct s) (tick_at x)
+pub upper_in_range : (s : System) (x y : List Tick) → AreMild s
     → IsUpperTurn s x y → length x ≡ length s.rows → length y ≡ length s.rows → All IsEnd x → All IsEnd y
-upper_in_range s x y shown t x-size y-size ends =
+unfolding top
+upper_in_range s x y a t x-size y-size ends =
     All-from_get_or IsEnd y no_tick
     (λ i l.
     let row : i < length s.rows = omega arith in
-    rw (t.row i row) (end-of (next_high s x i) (omega (arith, next_high-is s x i, shown.row i row, end-size x i (omega arith) ends))))
+    rw (t.row i row) (end-of (next_high s x i) (omega (
+      arith,
+      next_high-is s x i,
+      upper_sum-rises (length s.rows) (high_weight s) (high_direct s) (tick_at x) top (λ j w. end-size x j (omega arith) ends) i,
+      (top-shown (length s.rows) (high_weight s) (high_direct s) a.high a.high_light).row i row,
+    ))))
 
 -- ---- near enough
 
@@ -336,15 +347,19 @@ pub lower_rises : (s : System) (x y : List Tick) → IsShownLower (length s.rows
     → IsLowerTurn s x y → (i : ℕ) → i < length s.rows → tick_at x i ≤ tick_at y i
 lower_rises s x y shown t i l = omega (arith, lower_made s x y t i l, shown.row i l)
 
+pub lower_shown : (s : System) (x y : List Tick) → IsShownLower (length s.rows) 68719476736 (low_weight s) (low_direct s) (tick_at x)
+    → IsLowerTurn s x y → IsShownLower (length s.rows) 68719476736 (low_weight s) (low_direct s) (tick_at y)
+lower_shown s x y shown turn = record {
+  row = λ i l. omega (
+    arith,
+    lower_made s x y turn i l,
+    lower_sum-rises (length s.rows) (low_weight s) (low_direct s) (tick_at x) (tick_at y) (λ j w. lower_rises s x y shown turn j w) i,
+  );
+}
+
 pub lower_turned : (s : System) (x y : List Tick) (t : ℕ) → AreMild s → IsLowerState s x t → IsLowerTurn s x y → IsLowerState s y (t + 1)
 lower_turned s x y t a state turn = record {
-  shown = record {
-    row = λ i l. omega (
-      arith,
-      lower_made s x y turn i l,
-      lower_sum-rises (length s.rows) (low_weight s) (low_direct s) (tick_at x) (tick_at y) (λ j w. lower_rises s x y state.shown turn j w) i,
-    );
-  };
+  shown = lower_shown s x y state.shown turn;
   near = λ i l.
       let n : ℕ = length s.rows in
       let m : ℕ = denominator n 68719476736 (low_weight s) in
@@ -420,6 +435,30 @@ lower_answer s x a shown near size ends = record {
   near = lower_near s x a near;
   below_all = below_every s x a shown;
 }
+
+-- ---- a list that a turn changes by little everywhere
+
+changed : (d : ℕ) (x y : List Tick) → IsRiseBy d x y → IsChangedBy d x y
+changed d x y r = record { down = λ i l. omega (arith, r.up i l); up = r.little }
+
+pub lower_found : (s : System) (x y : List Tick) → AreMild s → IsLowerTurn s x y → length x ≡ length s.rows → length y ≡ length s.rows
+    → All IsEnd x → IsRiseBy 16384 x y → IsLowerAnswer s y
+lower_found s x y a turn x-size y-size ends rise =
+    let shown : IsShownLower (length s.rows) 68719476736 (low_weight s) (low_direct s) (tick_at x) =
+    record { row = λ i l. omega (arith, lower_made s x y turn i l, rise.up i (omega arith)) } in
+    lower_answer s y a (lower_shown s x y shown turn)
+    (lower_settled s x y 16384 a shown turn x-size (changed 16384 x y rise) (lit≤ tt))
+    y-size (lower_in_range s x y a turn x-size y-size ends)
+
+pub upper_found : (s : System) (x y : List Tick) → AreMild s → IsUpperTurn s x y → length x ≡ length s.rows → length y ≡ length s.rows
+    → All IsEnd x → IsRiseBy 16384 y x → IsUpperAnswer s y
+upper_found s x y a turn x-size y-size ends rise =
+    let shown : IsShownUpper (length s.rows) 68719476736 (high_weight s) (high_direct s) (tick_at x) =
+    record { row = λ i l. omega (arith, upper_made s x y turn i l, rise.up i (omega arith)) } in
+    let fall : IsChangedBy 16384 x y = record { down = λ i l. rise.little i (omega arith); up = λ i l. omega (arith, rise.up i (omega arith)) } in
+    upper_answer s y a (upper_shown s x y shown turn)
+    (upper_settled s x y 16384 a shown turn x-size fall (lit≤ tt))
+    y-size (upper_in_range s x y a turn x-size y-size ends)
 
 -- ---- both
 

@@ -23,3 +23,8 @@ pub record IsUpperTurn (s : System) (from into : List Tick) : Type 0 where
 pub record IsChangedBy (most : ℕ) (from into : List Tick) : Type 0 where
   pub down : (i : ℕ) → i < length from → tick_at from i ≤ tick_at into i + most
   pub up : (i : ℕ) → i < length from → tick_at into i ≤ tick_at from i + most
+
+-- no number of the list `high` is below that of `low`, or more than `most` ticks above it
+pub record IsRiseBy (most : ℕ) (low high : List Tick) : Type 0 where
+  pub up : (i : ℕ) → i < length low → tick_at low i ≤ tick_at high i
+  pub little : (i : ℕ) → i < length low → tick_at high i ≤ tick_at low i + most

@@ -1,10 +1,13 @@
-ghost use Rattle.std.specs.Prelude.{◌≡◌, IfOk, IfErr};
+ghost use Rattle.std.specs.Prelude.{◌≡◌, ◌^◌, All, IfOk, IfErr, length, pos, replicate};
+ghost use Rattle.fx_base.specs.Bound.{IsEnd};
 ghost use Rattle.interval_system.specs.System.{NoneHeavy};
 ghost use Rattle.radiosity_solve.specs.Bounds.{IsLowerAnswer, IsUpperAnswer, IsInOrder, IsUniquelySolved};
 ghost use Rattle.radiosity_solve.specs.SolveFault.{IsCause};
 
 use crate::fault::SolveFault;
+use crate::guide::Guide;
 use crate::side::{lower_side, upper_side};
+use crate::trial::{lower_tried, upper_tried};
 use fx_base::Tick;
 use interval_system::IntervalSystem;
 use std::alloc::Global;
@@ -17,6 +20,49 @@ const TOP: i128 = 1_237_940_039_285_380_274_899_124_224;
 pub struct Bounds {
     pub lower: Vec<Tick>,
     pub upper: Vec<Tick>,
+}
+
+/// The lower bounds: what the trial found, led from `near`, or else what the iteration from 0 gives. `spare` is room for turns.
+fn lower_bounds(
+    system: &IntervalSystem,
+    guide: &mut Guide,
+    near: &mut [Tick],
+    zeros: Vec<Tick>,
+    mut spare: Vec<Tick>,
+) -> Vec<Tick>
+    requires none_heavy { NoneHeavy system.now.rows }
+    requires size { length near.old ≡ length system.now.rows }
+    requires ends { All IsEnd near.old }
+    requires start { zeros.items ≡ replicate (length system.now.rows) (record { 0 = pos 0 }) }
+    requires room { length spare.items ≡ length system.now.rows }
+    ensures answer { IsLowerAnswer system.now result.items }
+    ensures ends { All IsEnd near.new }
+{
+    if lower_tried(system, guide, near, spare.as_mut_slice()) {
+        return spare;
+    }
+    lower_side(system, zeros, spare)
+}
+
+/// The upper bounds: what the trial found, led from `near`, or else what the iteration from 2^90 ticks gives.
+fn upper_bounds(
+    system: &IntervalSystem,
+    guide: &mut Guide,
+    near: &mut [Tick],
+    tops: Vec<Tick>,
+    mut spare: Vec<Tick>,
+) -> Vec<Tick>
+    requires none_heavy { NoneHeavy system.now.rows }
+    requires size { length near.old ≡ length system.now.rows }
+    requires ends { All IsEnd near.old }
+    requires start { tops.items ≡ replicate (length system.now.rows) (record { 0 = pos (2 ^ 90) }) }
+    requires room { length spare.items ≡ length system.now.rows }
+    ensures { IsUpperAnswer system.now result.items }
+{
+    if upper_tried(system, guide, near, spare.as_mut_slice()) {
+        return spare;
+    }
+    upper_side(system, tops, spare)
 }
 
 /// Bounds that hold every solution of every system in the intervals, each within 1/10,000 lux of the solution of all lower ends, or
@@ -33,11 +79,13 @@ pub fn solve(alloc: Global, system: &IntervalSystem) -> Result<Bounds, SolveFaul
         return Err(SolveFault::RowSum(heavy));
     }
     let size = system.size();
+    let mut guide = Guide::new(alloc, system)?;
+    let mut near = vec![in alloc; Tick(0); size]?;
     let zeros = vec![in alloc; Tick(0); size]?;
     let spare_below = vec![in alloc; Tick(0); size]?;
     let tops = vec![in alloc; Tick(TOP); size]?;
     let spare_above = vec![in alloc; Tick(0); size]?;
-    let lower = lower_side(system, zeros, spare_below);
-    let upper = upper_side(system, tops, spare_above);
+    let lower = lower_bounds(system, &mut guide, near.as_mut_slice(), zeros, spare_below);
+    let upper = upper_bounds(system, &mut guide, near.as_mut_slice(), tops, spare_above);
     Ok(Bounds { lower, upper })
 }

@@ -37,7 +37,6 @@ fn fall(system: &IntervalSystem, from: &[Tick], into: &mut [Tick]) -> u128
     requires size { length from.now ≡ length system.now.rows }
     requires room { length into.old ≡ length system.now.rows }
     requires ends { All IsEnd from.now }
-    requires shown { IsShownUpper (length system.now.rows) (2 ^ 36) (high_weight system.now) (high_direct system.now) (tick_at from.now) }
     ensures turn { IsUpperTurn system.now from.now into.new }
     ensures ends { All IsEnd into.new }
     ensures change { IsChangedBy result from.now into.new }
