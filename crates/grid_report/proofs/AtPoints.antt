@@ -23,12 +23,9 @@ use Rattle.grid_report.specs.Sums.{open_total}
 use Rattle.grid_report.specs.declared.value.PointValue.{PointValue}
 use Rattle.grid_report.proofs.Means.{no_point}
 use Rattle.grid_report.proofs.TickMeans.{open_count-cons}
+use Rattle.fx_base.proofs.Shares.{down_below_up}
 
 -- ---- the ends are in order
-
-shares_order : (a b : ℕ) → a ≤ b → down_to 68719476736 a ≤ up_to 68719476736 b
-unfolding down_to up_to
-shares_order a b h = omega (arith, h)
 
 -- the lower ends send no more than the upper ends
 pub sent_order : (row : List Weight) (lower upper : List Tick) (n : ℕ) → n ≤ length row → All IsWeight row
@@ -37,7 +34,7 @@ unfolding sent_low sent_high
 sent_order row lower upper n few weights order = total-le n
     (λ j. down_to (2 ^ 36) ((slice_index_or row j no_weight).lo * tick_at lower j))
     (λ j. up_to (2 ^ 36) ((slice_index_or row j no_weight).hi * tick_at upper j))
-    (λ j l. shares_order ((slice_index_or row j no_weight).lo * tick_at lower j) ((slice_index_or row j no_weight).hi * tick_at upper j)
+    (λ j l. down_below_up ((slice_index_or row j no_weight).lo * tick_at lower j) ((slice_index_or row j no_weight).hi * tick_at upper j)
     (mul-le-mul (weights j no_weight (omega arith)).in_order (order j l)))
 
 pub open_order : (row : List Weight) (direct : Ends) (lower upper : List Tick) → IsRow row → IsDirectLight direct

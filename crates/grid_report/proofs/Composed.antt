@@ -9,7 +9,7 @@ use Rattle.fx_base.specs.Fraction.{◌≤ᶠ◌, ◌+ᶠ◌, ratio}
 use Rattle.fx_base.specs.Interval.{LiesIn, outward}
 use Rattle.fx_base.specs.Units.{natural, ticks}
 use Rattle.fx_base.proofs.Order.{le_add_f}
-use Rattle.fx_base.proofs.Rounding.{natural-mono}
+use Rattle.fx_base.proofs.Rounding.{natural-mono, natural_most}
 use Rattle.fx_base.proofs.SearchLaws.{is_true_or_false}
 use Rattle.interval_system.specs.Equations.{RowsBelowOne}
 use Rattle.interval_system.specs.Radiosity.{Light, IsLightOf, value, values}
@@ -152,10 +152,6 @@ up_most b y h g = omega (arith, mul-le-mul {n₁ = b} {m₁ = y} {n₂ = 2 ^ 36}
 total_most : (n c : ℕ) (f : ℕ → ℕ) → ((j : ℕ) → j < n → f j ≤ c) → total n f ≤ n * c
 total_most zero c f h = omega arith
 total_most (suc n) c f h = omega (arith, total_most n c f (λ j l. h j (omega arith)), h n (omega arith))
-
-natural_most : (a : ℤ) (n : ℕ) → a ≤ℤ pos n → natural a ≤ n
-natural_most (pos a) n h = omega (arith, ints, h)
-natural_most (negsuc a) n h = omega arith
 
 light_is : (s : Numbers) (g : ℕ) → IsWellFormed s → g < length s.points → IsDirectLight (point_light s g)
 light_is s g formed inside = let lights = formed.lights in All-get_or IsDirectLight s.point_direct g no_light (omega arith) formed.each_light

@@ -4,22 +4,11 @@ use Rattle.std.proofs.lemmas.Bool.Decides.{nat_tests}
 use Rattle.fx_base.specs.Fraction.{Fraction, ◌≤ᶠ◌, ◌/ᶠ◌, ratio, whole, lesser}
 use Rattle.fx_base.specs.Interval.{InOrder}
 use Rattle.fx_base.proofs.Order.{le_trans_f, le_one_mul_f}
-use Rattle.fx_base.proofs.Ratios.{le_lesser, over_below, over_le}
+use Rattle.fx_base.proofs.Ratios.{le_lesser, over_below, over_le, by_nothing}
 use Rattle.interval_system.specs.Values.{Grid, open_count, least, average, uniformity}
 use Rattle.grid_report.proofs.Uniform.{below_least, least_below, least_below_mean, mean_le}
 
 -- ---- quotients, where the divisor may be 0
-
-none_by_nothing : (n : ℕ) (c : Fraction) → ratio n 0 ≤ᶠ c
-unfolding ratio
-none_by_nothing n c = record { cross = omega arith }
-
-by_nothing : (a b c : Fraction) → b.num ≡ 0 → (a /ᶠ b) ≤ᶠ c
-unfolding ◌/ᶠ◌
-by_nothing a b c e =
-    let f : 0 ≡ a.den * b.num = rw e (omega arith) in
-    let P : ℕ → Type 0 = λ d. ratio (a.num * b.den) d ≤ᶠ c in
-    subst P f (none_by_nothing (a.num * b.den) c)
 
 pub at_test : (b : Bool) (x y a : Fraction) → (b ≡ true → a ≤ᶠ x) → (b ≡ false → a ≤ᶠ y) → a ≤ᶠ (if b then x else y)
 at_test true x y a f g = f refl

@@ -9,7 +9,7 @@ use Rattle.fx_base.specs.Fraction.{Fraction, ◌≤ᶠ◌, ◌+ᶠ◌, ◌*ᶠ�
 use Rattle.fx_base.specs.Units.{ticks}
 use Rattle.fx_base.proofs.Order.{le_refl_f, le_trans_f, add_le_f, mul_le_f}
 use Rattle.fx_base.proofs.Ratios.{le_over, over_below}
-use Rattle.fx_base.proofs.Sums.{ticks_le, ticks_split, ticks_join}
+use Rattle.fx_base.proofs.Sums.{ticks_le, ticks_split, ticks_join, no_ticks}
 use Rattle.interval_system.specs.Values.{open_count, open_sum}
 use Rattle.grid_report.specs.Sums.{is_open}
 use Rattle.grid_report.specs.declared.value.PointValue.{PointValue}
@@ -25,10 +25,6 @@ no_point = record { covered = true; value = record { lo = pos 0; hi = pos 0 } }
 -- the same points are covered
 abbrev pub AreCoveredBy : List PointValue → (ℕ → Bool) → Type 0
 AreCoveredBy vs covered = (g : ℕ) (d : PointValue) → g < length vs → (slice_index_or vs g d).covered ≡ covered g
-
-no_ticks : (ticks 0 ≤ᶠ whole 0) × (whole 0 ≤ᶠ ticks 0)
-unfolding ticks whole
-no_ticks = (record { cross = omega arith }, record { cross = omega arith })
 
 term_above : (b c : Bool) (x : ℕ) (f : Fraction) → b ≡ c → (c ≡ false → ticks x ≤ᶠ f) → ticks (if b then 0 else x) ≤ᶠ (if c then whole 0 else f)
 term_above b true x f e h = rw e (no_ticks.0)

@@ -8,24 +8,9 @@ use Rattle.interval_system.specs.Equations.{value_by}
 use Rattle.interval_system.specs.Whole.{total}
 use Rattle.radiosity_solve.specs.Shown.{down_to, up_to}
 use Rattle.scene_system.proofs.Rows.{ticks_total_below, ticks_total_above, sum_to_more}
+use Rattle.fx_base.proofs.Shares.{share_down, share_up, share_down_near, share_up_near}
 
 -- ---- products
-
-product_down : (s t : ℕ) → ticks (down_to (2 ^ 36) (s * t)) ≤ᶠ (ticks s *ᶠ ticks t)
-unfolding down_to
-product_down s t = ticks_times_low s t
-
-product_up : (s t : ℕ) → (ticks s *ᶠ ticks t) ≤ᶠ ticks (up_to (2 ^ 36) (s * t))
-unfolding up_to
-product_up s t = ticks_times_high s t
-
-product_down_near : (s t : ℕ) → (ticks s *ᶠ ticks t) ≤ᶠ (ticks (down_to (2 ^ 36) (s * t)) +ᶠ ticks 1)
-unfolding down_to ticks ◌*ᶠ◌ ◌+ᶠ◌
-product_down_near s t = record { cross = omega arith }
-
-product_up_near : (s t : ℕ) → ticks (up_to (2 ^ 36) (s * t)) ≤ᶠ ((ticks s *ᶠ ticks t) +ᶠ ticks 1)
-unfolding up_to ticks ◌*ᶠ◌ ◌+ᶠ◌
-product_up_near s t = record { cross = omega arith }
 
 -- ---- the lower sum
 
@@ -37,7 +22,7 @@ lower_sum_below n e d w x k h light weights patches =
     le_trans_f (ticks_split e (total n (λ j. down_to (2 ^ 36) (w j * x j))))
     (add_le_f light
     (ticks_total_below n (λ j. down_to (2 ^ 36) (w j * x j)) (λ j. k j *ᶠ h j)
-    (λ j l. le_trans_f (product_down (w j) (x j)) (mul_le_f (weights j l) (patches j l)))))
+    (λ j l. le_trans_f (share_down (w j) (x j)) (mul_le_f (weights j l) (patches j l)))))
 
 pub lower_sum_near : (n e : ℕ) (d : Fraction) (w x : ℕ → ℕ) (k h : ℕ → Fraction) → d ≤ᶠ ticks e
     → ((j : ℕ) → j < n → k j ≤ᶠ ticks (w j)) → ((j : ℕ) → j < n → h j ≤ᶠ ticks (x j))
@@ -49,7 +34,7 @@ lower_sum_near n e d w x k h light weights patches =
     let sent : sum_to n (λ j. k j *ᶠ h j) ≤ᶠ (ticks (total n down) +ᶠ rest) =
     le_trans_f
     (sum_to_le n (λ j. k j *ᶠ h j) (λ j. ticks (down j) +ᶠ ticks 1)
-    (λ j l. le_trans_f (mul_le_f (weights j l) (patches j l)) (product_down_near (w j) (x j))))
+    (λ j l. le_trans_f (mul_le_f (weights j l) (patches j l)) (share_down_near (w j) (x j))))
     (le_trans_f (sum_to_more n (ticks 1) (λ j. ticks (down j)))
     (add_le_f (ticks_total_above n down (λ j. ticks (down j)) (λ j l. le_refl_f (ticks (down j)))) (le_refl_f rest))) in
     le_trans_f (add_le_f light sent)
@@ -65,7 +50,7 @@ upper_sum_above n e d w x k h light weights patches =
     le_trans_f
     (add_le_f light
     (ticks_total_above n (λ j. up_to (2 ^ 36) (w j * x j)) (λ j. k j *ᶠ h j)
-    (λ j l. le_trans_f (mul_le_f (weights j l) (patches j l)) (product_up (w j) (x j)))))
+    (λ j l. le_trans_f (mul_le_f (weights j l) (patches j l)) (share_up (w j) (x j)))))
     (ticks_join e (total n (λ j. up_to (2 ^ 36) (w j * x j))))
 
 pub upper_sum_near : (n e : ℕ) (d : Fraction) (w x : ℕ → ℕ) (k h : ℕ → Fraction) → ticks e ≤ᶠ d
@@ -78,7 +63,7 @@ upper_sum_near n e d w x k h light weights patches =
     let sent : ticks (total n up) ≤ᶠ (sum_to n (λ j. k j *ᶠ h j) +ᶠ rest) =
     le_trans_f
     (ticks_total_below n up (λ j. (k j *ᶠ h j) +ᶠ ticks 1)
-    (λ j l. le_trans_f (product_up_near (w j) (x j)) (add_le_f (mul_le_f (weights j l) (patches j l)) (le_refl_f (ticks 1)))))
+    (λ j l. le_trans_f (share_up_near (w j) (x j)) (add_le_f (mul_le_f (weights j l) (patches j l)) (le_refl_f (ticks 1)))))
     (sum_to_more n (ticks 1) (λ j. k j *ᶠ h j)) in
     le_trans_f (ticks_split e (total n up))
     (le_trans_f (add_le_f light sent) (add_left_f d (sum_to n (λ j. k j *ᶠ h j)) rest))

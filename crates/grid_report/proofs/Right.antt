@@ -9,7 +9,7 @@ use Rattle.fx_base.specs.Units.{ticks, of_span}
 use Rattle.fx_base.proofs.Order.{le_refl_f, le_trans_f, lt_le_trans_f, add_le_f, sub_back_f}
 use Rattle.fx_base.proofs.Ratios.{positive_above}
 use Rattle.fx_base.proofs.Rounding.{natural-mono}
-use Rattle.fx_base.proofs.Sums.{ticks_back, ticks_le}
+use Rattle.fx_base.proofs.Sums.{ticks_back, ticks_le, ticks_positive, some_ticks}
 use Rattle.interval_system.specs.Values.{Grid, least, average, uniformity}
 use Rattle.grid_report.specs.Sums.{lower_end, upper_end, open_total, average_low, average_high, IsLeast, IsValue}
 use Rattle.grid_report.specs.declared.value.PointValue.{PointValue}
@@ -109,10 +109,6 @@ order_mean : (x : Grid) (vs : List PointValue) → AreMeeting x vs → 0 < open_
 unfolding average
 order_mean x vs m some = least_below_mean x.covered (λ g. (x.value g).lo) (λ g. (x.value g).hi) x.points (rw (m.count, count_is vs x.covered m.covered) some) (λ g l o. m.order g (subst (λ z. g < z) m.count l))
 
-ticks_positive : (t : ℕ) → 0 < t → 0 < (ticks t).num
-unfolding ticks
-ticks_positive t p = p
-
 pub up_uniformity : (x : Grid) (vs : List PointValue) (a n : ℕ) → AreMeeting x vs → 0 < open_total vs → 0 < average_low vs → IsLeast upper_end vs a → IsUp a (average_low vs) n
     → (uniformity x).lo ≤ᶠ ratio n 1000
 unfolding uniformity
@@ -123,12 +119,8 @@ up_uniformity x vs a n m some positive is u =
     (positive_above (ticks_positive (average_low vs) positive) (average_meets x vs m some).above)
     (order_mean x vs m some)
 
-none_below : (t : ℕ) → 0 < t → whole 0 <ᶠ ticks t
-unfolding whole ticks
-none_below t p = record { cross = omega arith }
-
 pub positive_average : (x : Grid) (vs : List PointValue) → AreMeeting x vs → 0 < open_total vs → 0 < average_low vs → whole 0 <ᶠ (average x).hi
-positive_average x vs m some positive = lt_le_trans_f (none_below (average_low vs) positive) (average_meets x vs m some).above
+positive_average x vs m some positive = lt_le_trans_f (some_ticks (average_low vs) positive) (average_meets x vs m some).above
 
 -- ---- near the loose uniformity
 

@@ -7,8 +7,9 @@ use Rattle.std.proofs.lemmas.Grind.{div_ceil_times}
 use Rattle.fx_base.specs.Fraction.{Fraction, ◌≤ᶠ◌, ◌+ᶠ◌, ◌-ᶠ◌, ◌*ᶠ◌, ◌/ᶠ◌, ratio, whole, lesser}
 use Rattle.fx_base.specs.Units.{ticks}
 use Rattle.fx_base.proofs.Order.{le_refl_f, le_trans_f, add_le_f, add_right_f, add_swap_f, mul_le_f, le_add_f, le_one_mul_f, sub_le_f, sub_back_f}
-use Rattle.fx_base.proofs.Quotient.{quotient_near}
+use Rattle.fx_base.proofs.Quotient.{quotient_near, lesser_near}
 use Rattle.fx_base.proofs.Ratios.{le_lesser, le_over, over_below, over_mul_le, ratio_num, ratio_den, ratio_le_ratio, positive_above}
+use Rattle.fx_base.proofs.Sums.{ticks_positive}
 
 -- ---- what the two thousandths are to the ticks
 
@@ -111,10 +112,6 @@ to_two : (w n : ℕ) (x : Fraction) → w ≤ 2049 → x ≤ᶠ (ratio (n + 1) 1
 to_two w n x few h = le_trans_f h (le_trans_f (add_le_f (one_more n) (le_refl_f (whole 4 *ᶠ ticks w)))
     (le_trans_f (add_right_f (ratio n 1000) (ratio 1 1000) (whole 4 *ᶠ ticks w)) (add_le_f (le_refl_f (ratio n 1000)) (four_times w few))))
 
-ticks_positive : (t : ℕ) → 0 < t → 0 < (ticks t).num
-unfolding ticks
-ticks_positive t p = p
-
 -- the lower thousandths are at most 0.002 below the quotient of l and h
 pub down_near : (w a b n : ℕ) (l h : Fraction) → w ≤ 2049 → IsDown a b n → l ≤ᶠ (ticks a +ᶠ ticks w) → ticks b ≤ᶠ (h +ᶠ ticks w) → 0 < h.num → l ≤ᶠ h
     → 0 < b → whole 1 ≤ᶠ (whole 2 *ᶠ ticks b) → ((l /ᶠ h) -ᶠ ratio 2 1000) ≤ᶠ ratio n 1000
@@ -132,10 +129,6 @@ one_two h o = let g = o.cross in record { cross = omega arith }
 one_positive : 0 < (whole 1).num
 unfolding whole
 one_positive = omega arith
-
-lesser_near : (u q c : Fraction) → u ≤ᶠ whole 1 → u ≤ᶠ (q +ᶠ c) → u ≤ᶠ (lesser (whole 1) q +ᶠ c)
-lesser_near u q c one near =
-    sub_back_f u c (le_lesser (whole 1) q (sub_le_f u c (le_trans_f one (le_add_f (whole 1) c))) (sub_le_f u c near))
 
 back_one : (n : ℕ) → ratio n 1000 ≤ᶠ (ratio (n - 1) 1000 +ᶠ ratio 1 1000)
 back_one n = le_trans_f (ratio_le_ratio n 1000 ((n - 1) + 1) 1000 (omega arith) (omega arith) (omega arith)) (one_more (n - 1))

@@ -1,4 +1,4 @@
-// The values at the task points of a scene.
+//! The values at the task points of a scene.
 ghost use Rattle.std.specs.Prelude.{◌≡◌, ◌+◌, ◌*◌, ◌^◌, ◌<◌, ◌≤◌, ◌≤ℤ◌, ℕ, pos, true, false, All, IfOk, length};
 ghost use Rattle.fx_base.specs.Ends.{Ends};
 ghost use Rattle.fx_base.specs.Units.{natural};
@@ -91,10 +91,7 @@ pub fn points(alloc: Global, scene: &Scene, bounds: &Bounds) -> Result<Vec<Point
 {
     let mut values = Vec::new(alloc);
     for g in 0..scene.points.len() {
-        match values.push(value_at(scene, bounds, g)) {
-            Ok(()) => {}
-            Err(_) => return Err(Memory),
-        }
+        values.push(value_at(scene, bounds, g))?;
     }
     Ok(values)
 }

@@ -1,4 +1,4 @@
-// The text of a report.
+//! The text of a report.
 ghost use Rattle.std.specs.Prelude.{◌≡◌, ◌+◌, ◌*◌, ◌^◌, ◌<◌, ◌≤◌, ◌++◌, codes, All, IfOk, length, map, string_bytes, Some};
 ghost use Rattle.std.specs.Option.{option_map};
 ghost use Rattle.decimal_text.specs.Decimals.{hundredths, thousandths};
@@ -18,17 +18,13 @@ fn value_of_point(alloc: Global, point: &PointValue) -> Result<String, Memory>
     ensures { IfOk result (λ s. string_bytes s ≡ value_text (printed_value point.now)) }
 {
     if point.covered {
-        return match String::from_str(alloc, "covered") {
-            Ok(text) => Ok(text),
-            Err(_) => Err(Memory),
-        };
+        let text = String::from_str(alloc, "covered")?;
+        return Ok(text);
     }
     let low = cents_text(alloc, floor_cent(point.value.lo()))?;
     let high = cents_text(alloc, ceil_cent(point.value.hi()))?;
-    match format!(in alloc; "{low} {high}") {
-        Ok(text) => Ok(text),
-        Err(_) => Err(Memory),
-    }
+    let text = format!(in alloc; "{low} {high}")?;
+    Ok(text)
 }
 
 /// The line of a task point, by its number.
@@ -45,20 +41,16 @@ fn line_of_point(
     let column = index % columns;
     let row = index / columns;
     let value = value_of_point(alloc, point)?;
-    match format!(in alloc; "point {column} {row} {value}\n") {
-        Ok(text) => Ok(text),
-        Err(_) => Err(Memory),
-    }
+    let text = format!(in alloc; "point {column} {row} {value}\n")?;
+    Ok(text)
 }
 
 /// The text with a line after it.
 fn with_line(mut text: String, line: &str) -> Result<String, Memory>
     ensures { IfOk result (λ s. string_bytes s ≡ string_bytes text ++ line.now) }
 {
-    match text.push_str(line) {
-        Ok(()) => Ok(text),
-        Err(_) => Err(Memory),
-    }
+    text.push_str(line)?;
+    Ok(text)
 }
 
 /// The lines of all task points, by row, then by column.
@@ -88,10 +80,8 @@ fn line_of_average(alloc: Global, values: &[PointValue]) -> Result<String, Memor
     let mean = average(values);
     let low = cents_text(alloc, floor_cent(mean.lo()))?;
     let high = cents_text(alloc, ceil_cent(mean.hi()))?;
-    match format!(in alloc; "average {low} {high}\n") {
-        Ok(text) => Ok(text),
-        Err(_) => Err(Memory),
-    }
+    let text = format!(in alloc; "average {low} {high}\n")?;
+    Ok(text)
 }
 
 /// The line of the uniformity.
@@ -99,17 +89,13 @@ fn line_of_uniformity(alloc: Global, ratio: Option<Ratio>) -> Result<String, Mem
     ensures { IfOk result (λ s. string_bytes s ≡ line (codes "uniformity " ++ uniformity_text (option_map in_thousandths ratio))) }
 {
     let Some(ratio) = ratio else {
-        return match String::from_str(alloc, "uniformity none\n") {
-            Ok(text) => Ok(text),
-            Err(_) => Err(Memory),
-        };
+        let text = String::from_str(alloc, "uniformity none\n")?;
+        return Ok(text);
     };
     let low = milli_text(alloc, (ratio.lo / 1000) as u128)?;
     let high = milli_text(alloc, ratio.hi.div_ceil(1000) as u128)?;
-    match format!(in alloc; "uniformity {low} {high}\n") {
-        Ok(text) => Ok(text),
-        Err(_) => Err(Memory),
-    }
+    let text = format!(in alloc; "uniformity {low} {high}\n")?;
+    Ok(text)
 }
 
 /// The report of the values at task points, with so many columns: their lines, that of the average and that of the uniformity.

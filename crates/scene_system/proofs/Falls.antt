@@ -11,6 +11,7 @@ use Rattle.fx_base.proofs.Order.{le_refl_f, le_trans_f, add_le_f, le_add_f, sub_
 use Rattle.fx_base.proofs.Ratios.{over_le, over_below, le_over, positive_above, ratio_num, ratio_den}
 use Rattle.fx_base.proofs.RootLaws.{root_above_ticks, root_below_ticks}
 use Rattle.scene_system.specs.Light.{falloff, fallen, loosened}
+use Rattle.fx_base.proofs.Sums.{ticks_positive}
 
 -- ---- falloff of a lamp in one point, kept whole
 
@@ -76,10 +77,6 @@ high_near s c w r k b q f g l =
     less_two q (r * k) (c * w * (s * s)) (omega (arith, mul-le-mul_left s f, mul-le-mul_left r g, mul-le-mul_left r l))
 
 -- ---- against the exact value at depth n
-
-ticks_positive : (t : ℕ) → 0 < t → 0 < (ticks t).num
-unfolding ticks
-ticks_positive t p = p
 
 -- by cross products
 low_cross : (c w r h q : ℕ) → q * (r * h) ≤ c * w * (68719476736 * 68719476736) → (ticks q *ᶠ (whole r *ᶠ ticks h)) ≤ᶠ (whole c *ᶠ whole w)

@@ -18,6 +18,7 @@ use Rattle.room_layout.specs.declared.room.Shine.TheVariants.{Even}
 use Rattle.scene_system.specs.Light.{fallen, share_of, loosened, is_clear, lamp_place, lamp_light, loose_lamp_light}
 use Rattle.scene_system.specs.Positions.{IsLampLight, most_of_candela}
 use Rattle.scene_system.proofs.Apart.{some_at}
+use Rattle.fx_base.proofs.Sums.{no_ticks}
 
 -- ---- an even lamp in one point
 
@@ -101,10 +102,6 @@ lamp_near n room p face at c s j e m =
     (subst P (sym (share_at n room p face (outward (half_power 30) (exact (whole c))) j at c e)) m)
 
 -- ---- a lamp that gives nothing
-
-no_ticks : (ticks 0 ≤ᶠ whole 0) × (whole 0 ≤ᶠ ticks 0)
-unfolding ticks whole
-no_ticks = (record { cross = omega arith }, record { cross = omega arith })
 
 nothing_times : (a : Fraction) → (whole 0 *ᶠ a) ≤ᶠ whole 0
 unfolding whole ◌*ᶠ◌

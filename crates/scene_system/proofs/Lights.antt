@@ -4,12 +4,12 @@ use Rattle.std.proofs.lemmas.Int.{ints}
 use Rattle.std.proofs.lemmas.List.{take_all}
 use Rattle.std.proofs.lemmas.List.Sums.{sum_by_more}
 use Rattle.std.specs.Prelude.{slice_index_or}
-use Rattle.fx_base.specs.Fraction.{◌≤ᶠ◌, sum_to, whole}
+use Rattle.fx_base.specs.Fraction.{sum_to}
 use Rattle.fx_base.specs.Interval.{Meets, LiesIn}
 use Rattle.fx_base.specs.Ends.{Ends}
 use Rattle.fx_base.specs.Units.{ticks, natural, of_span}
 use Rattle.fx_base.proofs.Order.{le_trans_f, add_le_f}
-use Rattle.fx_base.proofs.Sums.{ticks_split, ticks_join}
+use Rattle.fx_base.proofs.Sums.{ticks_split, ticks_join, no_ticks}
 use Rattle.room_layout.specs.Place.{Place}
 use Rattle.room_layout.specs.declared.geometry.Face.{Face}
 use Rattle.room_layout.specs.declared.room.Lamp.{Lamp}
@@ -27,10 +27,6 @@ pub record IsLightOfFirst (room : Room) (p : Place) (face : Face) (count : ℕ) 
   pub low : pos 0 ≤ℤ s.lo
   pub most : natural s.hi ≤ sum_by candela_of (take count room.lamps) * most_of_candela
   pub fits : natural s.hi ≤ count * 2 ^ 82
-
-no_ticks : (ticks 0 ≤ᶠ whole 0) × (whole 0 ≤ᶠ ticks 0)
-unfolding ticks whole
-no_ticks = (record { cross = omega arith }, record { cross = omega arith })
 
 none_meets : (room : Room) (p : Place) (face : Face) (s : Ends) → s.lo ≡ pos 0 → s.hi ≡ pos 0 → (n : ℕ) → Meets (of_span s) (light_of_first n 0 room p face)
 unfolding light_of_first sum_to

@@ -1,5 +1,5 @@
 -- The enclosures of direct light and of coefficients aren't empty: each lower end is at most its upper end.
-use Rattle.std.proofs.Common.{ℕ, zero, suc, ◌+◌, ◌*◌, ◌^◌, ◌<◌, ◌≡◌, Bool, true, false, ◌&&◌, nat_lt, length, arith, refl, subst, if◌then◌else◌}
+use Rattle.std.proofs.Common.{ℕ, zero, suc, ◌+◌, ◌*◌, ◌^◌, ◌<◌, ◌≡◌, Bool, true, false, ◌&&◌, nat_lt, length, arith, refl, if◌then◌else◌}
 use Rattle.std.specs.Prelude.{slice_index_or}
 use Rattle.std.proofs.Math.Nat.{mul-pos, one-le-pow}
 use Rattle.std.proofs.lemmas.List.Elements.{All-get_or}
@@ -8,7 +8,7 @@ use Rattle.fx_base.specs.Interval.{Interval, InOrder, exact, outward}
 use Rattle.fx_base.specs.Root.{halved, root}
 use Rattle.fx_base.specs.Search.{whole_root}
 use Rattle.fx_base.proofs.Order.{le_refl_f, le_trans_f, mul_le_f, le_add_f, sub_le_self_f}
-use Rattle.fx_base.proofs.Ratios.{over_le, ratio_le_ratio}
+use Rattle.fx_base.proofs.Ratios.{ratio_le_ratio, over_le_any}
 use Rattle.fx_base.proofs.RootLaws.{root_nested}
 use Rattle.fx_base.proofs.SearchLaws.{whole_root_is}
 use Rattle.fx_base.proofs.Sums.{sum_to_le}
@@ -29,24 +29,6 @@ use Rattle.scene_system.specs.Light.{falloff, fallen, share_of, share, loose_sha
 use Rattle.scene_system.specs.Scene.{patch_count, patch_of, patch_place, patch_face, no_patch, task_point_place, coefficient_at, loose_coefficient_at}
 
 -- ---- quotients, where the divisor may be 0
-
-none_by_nothing : (n : ℕ) (c : Fraction) → ratio n 0 ≤ᶠ c
-unfolding ratio
-none_by_nothing n c = record { cross = omega arith }
-
-by_nothing : (a b c : Fraction) → b.num ≡ 0 → (a /ᶠ b) ≤ᶠ c
-unfolding ◌/ᶠ◌
-by_nothing a b c e =
-    let f : 0 ≡ a.den * b.num = rw e (omega arith) in
-    let P : ℕ → Type 0 = λ d. ratio (a.num * b.den) d ≤ᶠ c in
-    subst P f (none_by_nothing (a.num * b.den) c)
-
-over_at : (a b c d : Fraction) (n : ℕ) → d.num ≡ n → a ≤ᶠ c → d ≤ᶠ b → (d.num ≡ 0 → b.num ≡ 0) → (a /ᶠ b) ≤ᶠ (c /ᶠ d)
-over_at a b c d zero e g h z = by_nothing a b (c /ᶠ d) (z e)
-over_at a b c d (suc n) e g h z = over_le (omega (arith, e)) g h
-
-over_le_any : (a b c d : Fraction) → a ≤ᶠ c → d ≤ᶠ b → (d.num ≡ 0 → b.num ≡ 0) → (a /ᶠ b) ≤ᶠ (c /ᶠ d)
-over_le_any a b c d g h z = over_at a b c d d.num refl g h z
 
 -- ---- falloff
 

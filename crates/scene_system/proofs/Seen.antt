@@ -1,17 +1,12 @@
 -- Weights of patches that are seen, and of those that aren't.
 use Rattle.std.proofs.Common.{◌≤◌, ◌≡◌, Bool, true, false, refl, arith}
-use Rattle.fx_base.specs.Fraction.{◌≤ᶠ◌, whole}
-use Rattle.fx_base.specs.Units.{ticks}
 use Rattle.fx_base.specs.declared.weight.Weight.{Weight}
 use Rattle.room_layout.specs.Place.{Place}
 use Rattle.room_layout.specs.declared.geometry.Face.{Face}
 use Rattle.patch_mesh.specs.declared.patch.Patch.{Patch}
 use Rattle.form_factor.specs.Coefficient.{coefficient}
 use Rattle.form_factor.specs.Weights.{IsCoefficient}
-
-no_ticks : (ticks 0 ≤ᶠ whole 0) × (whole 0 ≤ᶠ ticks 0)
-unfolding ticks whole
-no_ticks = (record { cross = omega arith }, record { cross = omega arith })
+use Rattle.fx_base.proofs.Sums.{no_ticks}
 
 nothing : (p : Place) (f : Face) (patch : Patch) → IsCoefficient p f patch false (record { lo = 0; hi = 0 })
 unfolding coefficient

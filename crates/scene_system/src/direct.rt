@@ -23,10 +23,7 @@ pub fn patch_lights(alloc: Global, room: &Room, patches: &[Patch]) -> Result<Vec
     let mut lights = Vec::new(alloc);
     for i in 0..patches.len() {
         let light = light_at(room, patches[i].centre, patches[i].face);
-        match lights.push(light) {
-            Ok(()) => {}
-            Err(_) => return Err(Memory),
-        }
+        lights.push(light)?;
     }
     Ok(lights)
 }
@@ -42,10 +39,7 @@ pub fn point_lights(alloc: Global, room: &Room, points: &[TaskPoint]) -> Result<
     let mut lights = Vec::new(alloc);
     for g in 0..points.len() {
         let light = light_at(room, points[g].at, Face::Up);
-        match lights.push(light) {
-            Ok(()) => {}
-            Err(_) => return Err(Memory),
-        }
+        lights.push(light)?;
     }
     Ok(lights)
 }

@@ -84,10 +84,7 @@ pub fn patch_rows(alloc: Global, room: &Room, patches: &[Patch]) -> Result<Vec<R
     let mut rows = Vec::new(alloc);
     for i in 0..patches.len() {
         let row = patch_row(alloc, room, patches, &patches[i])?;
-        match rows.push(row) {
-            Ok(()) => {}
-            Err(_) => return Err(Memory),
-        }
+        rows.push(row)?;
     }
     Ok(rows)
 }
@@ -106,10 +103,7 @@ pub fn point_rows(
     let mut rows = Vec::new(alloc);
     for g in 0..points.len() {
         let row = point_row(alloc, room, patches, points[g].at)?;
-        match rows.push(row) {
-            Ok(()) => {}
-            Err(_) => return Err(Memory),
-        }
+        rows.push(row)?;
     }
     Ok(rows)
 }
