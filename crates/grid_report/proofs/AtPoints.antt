@@ -12,13 +12,13 @@ use Rattle.fx_base.specs.declared.Weight.{Weight}
 use Rattle.fx_base.proofs.Rounding.{natural-mono}
 use Rattle.interval_system.specs.System.{no_weight, no_light, IsDirectLight, IsRow, IsWeight}
 use Rattle.patch_mesh.specs.declared.patch.TaskPoint.{TaskPoint}
-use Rattle.radiosity_solve.specs.Bounds.{tick_at}
-use Rattle.radiosity_solve.specs.Shown.{down_to, up_to}
+use Rattle.interval_system.specs.Ticks.{tick_at}
+use Rattle.fx_base.specs.Rounded.{down_to, up_to}
 use Rattle.interval_system.proofs.Totals.{total-le}
 use Rattle.scene_system.specs.Assembled.{Numbers, is_open_point, open_points, IsWellFormed}
 use Rattle.scene_system.specs.Scene.{no_task_point}
 use Rattle.grid_report.specs.PointValues.{lower_value, upper_value, IsValueOf}
-use Rattle.grid_report.specs.Rows.{sent_low, sent_high}
+use Rattle.interval_system.specs.Sent.{sent_low, sent_high}
 use Rattle.grid_report.specs.Sums.{open_total}
 use Rattle.grid_report.specs.declared.value.PointValue.{PointValue}
 use Rattle.grid_report.proofs.Means.{no_point}

@@ -1,6 +1,6 @@
 -- The values of a scene of a room, with bounds of the light of its patches, are those of the room.
 use Rattle.std.proofs.Common.{ℕ, zero, suc, ◌+◌, ◌*◌, ◌^◌, ◌<◌, ◌≤◌, ◌≡◌, sym, ap, ◌∙◌, subst, List, length, get_or, inl, inr, arith}
-use Rattle.std.specs.Prelude.{ℤ, pos, negsuc, ◌≤ℤ◌, slice_index_or}
+use Rattle.std.specs.Prelude.{ℤ, slice_index_or}
 use Rattle.std.proofs.Math.Nat.{mul-le-mul}
 use Rattle.std.proofs.lemmas.Int.{ints}
 use Rattle.std.proofs.lemmas.List.Elements.{All-get_or}
@@ -16,7 +16,8 @@ use Rattle.interval_system.specs.Radiosity.{Light, IsLightOf, value, values}
 use Rattle.interval_system.specs.System.{IsDirectLight, NoneHeavy, no_light, weight_at, low_weight, high_weight, low_direct, high_direct}
 use Rattle.interval_system.specs.Whole.{total}
 use Rattle.radiosity_solve.specs.Bounds.{IsEnd, IsLowerAnswer, IsUpperAnswer, IsInOrder, no_tick, tick_at, ticks_solution}
-use Rattle.radiosity_solve.specs.Shown.{down_to, up_to, IsShownLower, IsShownUpper}
+use Rattle.radiosity_solve.specs.Shown.{IsShownLower, IsShownUpper}
+use Rattle.fx_base.specs.Rounded.{down_to, up_to}
 use Rattle.interval_system.proofs.Totals.{total-le}
 use Rattle.room_layout.specs.Accepted.{IsAccepted}
 use Rattle.room_layout.specs.declared.room.Room.{Room}

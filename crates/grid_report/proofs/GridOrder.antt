@@ -1,7 +1,7 @@
 -- The average and the uniformity of a grid whose values are in order are in order.
-use Rattle.std.proofs.Common.{ℕ, zero, suc, ◌*◌, ◌<◌, ◌≡◌, ◌==◌, Bool, true, false, if◌then◌else◌, refl, subst, arith}
+use Rattle.std.proofs.Common.{ℕ, zero, suc, ◌<◌, ◌≡◌, ◌==◌, Bool, true, false, if◌then◌else◌, refl, arith}
 use Rattle.std.proofs.lemmas.Bool.Decides.{nat_tests}
-use Rattle.fx_base.specs.Fraction.{Fraction, ◌≤ᶠ◌, ◌/ᶠ◌, ratio, whole, lesser}
+use Rattle.fx_base.specs.Fraction.{Fraction, ◌≤ᶠ◌, ◌/ᶠ◌, whole, lesser}
 use Rattle.fx_base.specs.Interval.{InOrder}
 use Rattle.fx_base.proofs.Order.{le_trans_f, le_one_mul_f}
 use Rattle.fx_base.proofs.Ratios.{le_lesser, over_below, over_le, by_nothing}

@@ -10,7 +10,6 @@ pub mod Means
 pub mod Printing
 pub mod Right
 pub mod Rooms
-pub mod Sent
 pub mod Shares
 pub mod TickMeans
 pub mod Totals

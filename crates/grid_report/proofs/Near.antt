@@ -8,7 +8,8 @@ use Rattle.interval_system.specs.Equations.{RowsBelowOne, value_by, solution}
 use Rattle.interval_system.specs.Radiosity.{Radiosity, Light, IsLightOf, AreRowsBelowOne, value}
 use Rattle.interval_system.specs.Whole.{total}
 use Rattle.radiosity_solve.specs.Bounds.{ticks_solution}
-use Rattle.radiosity_solve.specs.Shown.{down_to, up_to, IsShownLower, IsShownUpper}
+use Rattle.radiosity_solve.specs.Shown.{IsShownLower, IsShownUpper}
+use Rattle.fx_base.specs.Rounded.{down_to, up_to}
 use Rattle.radiosity_solve.proofs.Compose.{lower_below, upper_above, lower_within, upper_within}
 use Rattle.radiosity_solve.proofs.Fractions.{has_one_fraction_solution}
 use Rattle.grid_report.proofs.PointSteps.{lower_sum_below, lower_sum_near, upper_sum_above, upper_sum_near, rounding_most}

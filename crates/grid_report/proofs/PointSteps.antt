@@ -3,10 +3,10 @@ use Rattle.std.proofs.Common.{ℕ, ◌+◌, ◌*◌, ◌^◌, ◌<◌, ◌≤◌
 use Rattle.fx_base.specs.Fraction.{Fraction, ◌≤ᶠ◌, ◌+ᶠ◌, ◌*ᶠ◌, whole, sum_to}
 use Rattle.fx_base.specs.Units.{ticks}
 use Rattle.fx_base.proofs.Order.{le_refl_f, le_trans_f, add_le_f, add_left_f, mul_le_f}
-use Rattle.fx_base.proofs.Sums.{sum_to_le, ticks_split, ticks_join, ticks_times_low, ticks_times_high}
+use Rattle.fx_base.proofs.Sums.{sum_to_le, ticks_split, ticks_join}
 use Rattle.interval_system.specs.Equations.{value_by}
 use Rattle.interval_system.specs.Whole.{total}
-use Rattle.radiosity_solve.specs.Shown.{down_to, up_to}
+use Rattle.fx_base.specs.Rounded.{down_to, up_to}
 use Rattle.scene_system.proofs.Rows.{ticks_total_below, ticks_total_above, sum_to_more}
 use Rattle.fx_base.proofs.Shares.{share_down, share_up, share_down_near, share_up_near}
 

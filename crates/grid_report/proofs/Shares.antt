@@ -6,7 +6,7 @@ use Rattle.std.proofs.lemmas.Bool.{cases_lt}
 use Rattle.std.proofs.lemmas.Grind.{div_ceil_times}
 use Rattle.fx_base.specs.Fraction.{Fraction, ◌≤ᶠ◌, ◌+ᶠ◌, ◌-ᶠ◌, ◌*ᶠ◌, ◌/ᶠ◌, ratio, whole, lesser}
 use Rattle.fx_base.specs.Units.{ticks}
-use Rattle.fx_base.proofs.Order.{le_refl_f, le_trans_f, add_le_f, add_right_f, add_swap_f, mul_le_f, le_add_f, le_one_mul_f, sub_le_f, sub_back_f}
+use Rattle.fx_base.proofs.Order.{le_refl_f, le_trans_f, add_le_f, add_right_f, add_swap_f, mul_le_f, le_one_mul_f, sub_le_f}
 use Rattle.fx_base.proofs.Quotient.{quotient_near, lesser_near}
 use Rattle.fx_base.proofs.Ratios.{le_lesser, le_over, over_below, over_mul_le, ratio_num, ratio_den, ratio_le_ratio, positive_above}
 use Rattle.fx_base.proofs.Sums.{ticks_positive}

@@ -1,5 +1,4 @@
 pub mod Sums
-pub mod Rows
 pub mod RoomValues
 pub mod PointValues
 pub mod Printed

@@ -6,8 +6,8 @@ use Rattle.fx_base.specs.declared.Tick.{Tick}
 use Rattle.interval_system.specs.Radiosity.{AreRowsBelowOne}
 use Rattle.interval_system.specs.System.{no_light}
 use Rattle.interval_system.specs.Whole.{total}
-use Rattle.radiosity_solve.specs.Bounds.{tick_at}
-use Rattle.radiosity_solve.specs.Shown.{down_to, up_to}
+use Rattle.interval_system.specs.Ticks.{tick_at}
+use Rattle.fx_base.specs.Rounded.{down_to, up_to}
 use Rattle.room_layout.specs.declared.room.Room.{Room}
 use Rattle.scene_system.specs.Assembled.{Numbers, point_weight, point_light}
 use Rattle.scene_system.specs.Scene.{task_point_of, no_task_point, radiosity, loose_radiosity}

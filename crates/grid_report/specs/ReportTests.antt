@@ -4,11 +4,11 @@ use Rattle.std.specs.Fmt.{digits}
 use Rattle.fx_base.specs.Fraction.{at_most, ratio, whole, ◌+ᶠ◌, ◌*ᶠ◌, ◌/ᶠ◌, lesser, sum_to}
 use Rattle.fx_base.specs.Interval.{exact}
 use Rattle.interval_system.specs.Values.{Grid, open_count, open_sum, mean, least, average, uniformity}
-use Rattle.radiosity_solve.specs.Shown.{down_to, up_to}
+use Rattle.fx_base.specs.Rounded.{down_to, up_to}
 use Rattle.grid_report.specs.Headline.{least_end}
 use Rattle.grid_report.specs.Printed.{Printed, point_lines, report_text}
 use Rattle.grid_report.specs.Reports.{in_cents, in_thousandths, printed_value}
-use Rattle.grid_report.specs.Rows.{sent_low, sent_high}
+use Rattle.interval_system.specs.Sent.{sent_low, sent_high}
 use Rattle.grid_report.specs.Sums.{average_low, average_high}
 use Rattle.grid_report.specs.declared.value.PointValue.{PointValue}
 

@@ -1,7 +1,8 @@
 -- The report of some values: what is printed of each, of their average and of their uniformity.
-use Rattle.std.specs.Prelude.{ℕ, ◌≡◌, ◌*◌, ◌/◌, if◌then◌else◌, List, map, Option, Some, None, MatchOption}
+use Rattle.std.specs.Prelude.{ℕ, ◌≡◌, ◌/◌, if◌then◌else◌, List, map, Option, Some, None, MatchOption}
 use Rattle.std.specs.Int.{div_ceil}
 use Rattle.fx_base.specs.Units.{natural}
+use Rattle.fx_base.specs.Rounded.{hundredths_below, hundredths_above}
 use Rattle.grid_report.specs.Printed.{Printed, Report}
 use Rattle.grid_report.specs.Sums.{average_low, average_high, IsUniformity}
 use Rattle.grid_report.specs.declared.value.Ratio.{Ratio}
@@ -9,7 +10,7 @@ use Rattle.grid_report.specs.declared.value.PointValue.{PointValue}
 
 -- ticks in hundredths, rounded down and up
 abbrev pub in_cents : ℕ → ℕ → Printed
-in_cents low high = record { lo = low * 100 / 68719476736; hi = div_ceil (high * 100) 68719476736 }
+in_cents low high = record { lo = hundredths_below low; hi = hundredths_above high }
 
 abbrev pub printed_value : PointValue → Option Printed
 printed_value v = if v.covered then None else Some (in_cents (natural v.value.lo) (natural v.value.hi))

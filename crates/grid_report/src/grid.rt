@@ -2,14 +2,13 @@
 ghost use Rattle.std.specs.Prelude.{◌≡◌, ◌+◌, ◌*◌, ◌^◌, ◌<◌, ◌≤◌, ◌≤ℤ◌, ℕ, pos, true, false, All, IfOk, length};
 ghost use Rattle.fx_base.specs.Ends.{Ends};
 ghost use Rattle.fx_base.specs.Units.{natural};
+ghost use Rattle.interval_system.specs.Sent.{sent_high, sent_low};
 ghost use Rattle.interval_system.specs.System.{no_light, IsDirectLight};
 ghost use Rattle.radiosity_solve.specs.Bounds.{IsEnd, tick_at};
 ghost use Rattle.scene_system.specs.Assembled.{numbers, open_points, IsWellFormed};
 ghost use Rattle.grid_report.specs.PointValues.{AreValuesOf, IsValueOf};
-ghost use Rattle.grid_report.specs.Rows.{sent_high, sent_low};
 ghost use Rattle.grid_report.specs.Sums.{open_total, IsValue};
 
-use crate::row::{light_above, light_below};
 use crate::value::PointValue;
 use fx_base::{Memory, Span, Tick, magnitude, tick_of};
 use interval_system::Row;
@@ -42,8 +41,8 @@ fn open_value(row: &Row, direct: &Span, lower: &[Tick], upper: &[Tick]) -> Point
     ensures value { IsValue result }
 {
     let _size = row.len();
-    let low = size_of_light(direct.lo()) + light_below(row, lower);
-    let high = size_of_light(direct.hi()) + light_above(row, upper);
+    let low = size_of_light(direct.lo()) + row.sent_below(lower);
+    let high = size_of_light(direct.hi()) + row.sent_above(upper);
     PointValue {
         covered: false,
         value: Span::new(tick_of(low), tick_of(high)),

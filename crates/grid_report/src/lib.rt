@@ -3,7 +3,6 @@
 
 mod grid;
 pub mod laws;
-mod row;
 mod sums;
 #[cfg(test)]
 mod tests;
