@@ -3,6 +3,7 @@ use Rattle.std.specs.Prelude.{ℕ, ◌+◌, ◌/◌, ◌%◌, List, [], ◌∷�
 use Rattle.fx_base.specs.Fraction.{ratio}
 use Rattle.fx_base.specs.Interval.{Interval}
 use Rattle.decimal_text.specs.Decimals.{hundredths, thousandths}
+use Rattle.decimal_text.specs.Lines.{line}
 
 -- two printed numbers, the lower one rounded down and the upper one rounded up
 pub record Printed : Type 0 where
@@ -22,9 +23,6 @@ pub record Report : Type 0 where
   pub uniformity : Option Printed
 
 -- ---- spelled
-
-abbrev pub line : List ℕ → List ℕ
-line text = text ++ codes "\n"
 
 abbrev pub value_text : Option Printed → List ℕ
 value_text None = codes "covered"

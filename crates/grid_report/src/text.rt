@@ -2,7 +2,8 @@
 ghost use Rattle.std.specs.Prelude.{◌≡◌, ◌+◌, ◌*◌, ◌^◌, ◌<◌, ◌≤◌, ◌++◌, codes, All, IfOk, length, map, string_bytes, Some};
 ghost use Rattle.std.specs.Option.{option_map};
 ghost use Rattle.decimal_text.specs.Decimals.{hundredths, thousandths};
-ghost use Rattle.grid_report.specs.Printed.{line, point_line, point_lines, report_text, uniformity_text, value_text, Report};
+ghost use Rattle.decimal_text.specs.Lines.{line};
+ghost use Rattle.grid_report.specs.Printed.{point_line, point_lines, report_text, uniformity_text, value_text, Report};
 ghost use Rattle.grid_report.specs.Reports.{in_cents, in_thousandths, printed_value, IsReportOf};
 ghost use Rattle.grid_report.specs.Sums.{average_high, average_low, open_total, IsUniformity, IsValue};
 

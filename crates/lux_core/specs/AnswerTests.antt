@@ -3,7 +3,7 @@ use Rattle.std.specs.Prelude.{◌≡◌, ◌++◌, ℕ, List, [], ◌∷◌, tru
 use Rattle.std.specs.Fmt.{digits}
 use Rattle.std.proofs.Common.{lit≤, inl}
 use Rattle.decimal_text.specs.Decimals.{thousandths}
-use Rattle.grid_report.specs.Printed.{line}
+use Rattle.decimal_text.specs.Lines.{line}
 use Rattle.room_layout.specs.Place.{point_of}
 use Rattle.scene_system.specs.declared.fault.SceneFault.TheVariants as scene_fault
 use Rattle.lux_core.specs.Answers.{IsAnswer}

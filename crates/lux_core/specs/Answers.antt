@@ -1,6 +1,6 @@
 -- What a run of the planner may answer: which text goes with which status, and what was the cause.
 use Rattle.std.specs.Prelude.{ℕ, ◌≡◌, ◌≢◌, ◌+◌, ◌<◌, ◌≤◌, ◌⊎◌, List, ◌++◌, length, codes, Option, Some, None, IfSome, IsSomeAnd}
-use Rattle.grid_report.specs.Printed.{line}
+use Rattle.decimal_text.specs.Lines.{line}
 use Rattle.lux_io.specs.Files.{bytes_of, Rose}
 use Rattle.lux_io.specs.declared.take.TakeFault.{TakeFault}
 use Rattle.lux_io.specs.declared.take.TakeFault.TheVariants as take

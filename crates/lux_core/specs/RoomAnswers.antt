@@ -2,7 +2,8 @@
 use Rattle.std.specs.Prelude.{ℕ, ◌≡◌, ◌≢◌, ◌⊎◌, List, [], All, ◌++◌, codes, decimal, Ok, Err}
 use Rattle.decimal_text.specs.Decimals.{thousandths}
 use Rattle.grid_report.specs.Headline.{IsRight}
-use Rattle.grid_report.specs.Printed.{Report, line, report_text}
+use Rattle.grid_report.specs.Printed.{Report, report_text}
+use Rattle.decimal_text.specs.Lines.{line}
 use Rattle.room_layout.specs.Accepted.{IsPlainLamp}
 use Rattle.room_layout.specs.FaultText.{fault_text}
 use Rattle.room_layout.specs.Layout.{built_room_of}

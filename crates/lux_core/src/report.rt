@@ -1,8 +1,9 @@
 //! The report of a room, and its refusals.
 ghost use Rattle.std.specs.Prelude.{◌≡◌, ◌≢◌, ◌++◌, codes, decimal, IfOk, string_bytes, All};
 ghost use Rattle.decimal_text.specs.Decimals.{thousandths};
+ghost use Rattle.decimal_text.specs.Lines.{line};
 ghost use Rattle.grid_report.specs.Headline.{IsRight};
-ghost use Rattle.grid_report.specs.Printed.{line, report_text, Report};
+ghost use Rattle.grid_report.specs.Printed.{report_text, Report};
 ghost use Rattle.interval_system.specs.System.{IsFirstHeavy, NoneHeavy};
 ghost use Rattle.radiosity_solve.specs.Bounds.{IsInOrder, IsLowerAnswer, IsUpperAnswer};
 ghost use Rattle.room_layout.specs.Accepted.{IsAccepted, IsPlainLamp};

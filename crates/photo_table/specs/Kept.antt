@@ -1,12 +1,13 @@
 -- What the lists of a table keep, and how near its answers are.
-use Rattle.std.specs.Prelude.{ℕ, ◌+◌, ◌-◌, ◌*◌, ◌/◌, ◌<◌, ◌≤◌, ◌≡◌, ◌≤ℤ◌, pos, List, [], ◌∷◌, ◌++◌, length, map, slice_index_or, codes, decimal}
-use Rattle.std.specs.Int.{div_ceil}
+use Rattle.std.specs.Prelude.{ℕ, ◌+◌, ◌-◌, ◌*◌, ◌<◌, ◌≤◌, ◌≡◌, ◌≤ℤ◌, pos, List, [], ◌∷◌, ◌++◌, length, map, slice_index_or, codes, decimal}
+use Rattle.fx_base.specs.Rounded.{hundredths_below, hundredths_above}
 use Rattle.fx_base.specs.Fraction.{Fraction, ◌≤ᶠ◌, whole}
 use Rattle.fx_base.specs.Interval.{Interval, exact}
 use Rattle.fx_base.specs.Ends.{Ends}
 use Rattle.fx_base.specs.Units.{natural, ticks, of_span}
 use Rattle.fx_base.specs.declared.Micro.{Micro}
 use Rattle.decimal_text.specs.Decimals.{hundredths}
+use Rattle.decimal_text.specs.Lines.{line}
 use Rattle.photo_table.specs.Table.{Table, IsTable, lower, upper}
 
 abbrev pub angle_of : Micro → ℕ
@@ -83,18 +84,11 @@ even_table candela = record {
 
 -- ---- the summary
 
--- so many ticks in hundredths of a candela, rounded down and rounded up
-abbrev pub hundredths_below : ℕ → ℕ
-hundredths_below t = t * 100 / 68719476736
-
-abbrev pub hundredths_above : ℕ → ℕ
-hundredths_above t = div_ceil (t * 100) 68719476736
-
 -- how many planes and gammas, and the greatest intensity between the two numbers that are printed of it
 abbrev pub summary_line : Table → ℕ → ℕ → List ℕ
 summary_line t low high =
-    codes "planes " ++ decimal (length t.planes) ++ codes " gammas " ++ decimal (length t.gammas)
-    ++ codes " greatest " ++ hundredths (hundredths_below low) ++ codes " " ++ hundredths (hundredths_above high)
+    line (codes "planes " ++ decimal (length t.planes) ++ codes " gammas " ++ decimal (length t.gammas)
+    ++ codes " greatest " ++ hundredths (hundredths_below low) ++ codes " " ++ hundredths (hundredths_above high))
 
 -- the text is that line for the greatest lower and the greatest upper end
 pub record IsSummary (t : Table) (text : List ℕ) : Type 0 where
@@ -102,4 +96,4 @@ pub record IsSummary (t : Table) (text : List ℕ) : Type 0 where
   pub high : ℕ
   pub low_is : IsGreatest lower t (ticks low)
   pub high_is : IsGreatest upper t (ticks high)
-  pub line : text ≡ summary_line t low high
+  pub text_is : text ≡ summary_line t low high

@@ -119,7 +119,7 @@ hull_over_the_first_gamma = refl
 
 -- ---- the summary of 100.07 candela, whose neighbouring ticks are 6876758036971 and 6876758036972
 
-rounded_outward_twice : summary_line four_planes 6876758036971 6876758036972 ≡ codes "planes 4 gammas 2 greatest 100.06 100.08"
+rounded_outward_twice : summary_line four_planes 6876758036971 6876758036972 ≡ codes "planes 4 gammas 2 greatest 100.06 100.08\n"
 unfolding digits four_planes
 rounded_outward_twice = refl
 

@@ -16,8 +16,6 @@ pub fn summary_text(alloc: Global, table: &PhotoTable) -> Result<String, Memory>
     let gammas = table.gammas();
     let low = cents_text(alloc, floor_cent(table.greatest_lower()))?;
     let high = cents_text(alloc, ceil_cent(table.greatest()))?;
-    match format!(in alloc; "planes {planes} gammas {gammas} greatest {low} {high}") {
-        Ok(text) => Ok(text),
-        Err(_) => Err(Memory),
-    }
+    let text = format!(in alloc; "planes {planes} gammas {gammas} greatest {low} {high}\n")?;
+    Ok(text)
 }

@@ -128,6 +128,6 @@ fn an_even_table_is_the_same_everywhere(rt: HostRuntime) -> Result<(), Fail> {
 fn a_summary_is_a_line_of_counts_and_hundredths(rt: HostRuntime) -> Result<(), Fail> {
     let table = PhotoTable::even(rt.alloc(), 200)?;
     let text = summary_text(rt.alloc(), &table)?;
-    assert_eq!(rt; text.as_str(), "planes 1 gammas 2 greatest 200.00 200.00");
+    assert_eq!(rt; text.as_str(), "planes 1 gammas 2 greatest 200.00 200.00\n");
     Ok(())
 }
