@@ -6,3 +6,10 @@ pub mod Rounds
 pub mod Turned
 pub mod Ends
 pub mod RoundedAll
+pub mod Mirrors
+pub mod Turns
+pub mod Ways
+pub mod Folds
+pub mod Across
+pub mod AllFolded
+pub mod Measures

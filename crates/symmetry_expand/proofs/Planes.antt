@@ -102,6 +102,10 @@ at_most_last ps h k p = elim (cases_lt k (length ps - 1)) [
   | inr g ↦ let e : k ≡ length ps - 1 = omega arith in rw e (omega arith)
 ]
 
+pub at_least_first : (ps : List ℕ) → RiseOnce ps → (k : ℕ) → k < length ps → first_of ps ≤ slice_index_or ps k 0
+at_least_first ps h zero p = omega arith
+at_least_first ps h (suc k) p = let g = h.rise 0 (suc k) (omega arith) p in omega arith
+
 pub first_below_last : (ps : List ℕ) → RiseOnce ps → 2 ≤ length ps → first_of ps < last_of ps
 first_below_last ps h two = h.rise 0 (length ps - 1) (omega arith) (omega arith)
 

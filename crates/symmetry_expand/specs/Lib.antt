@@ -1,5 +1,7 @@
 pub mod Stored
+pub mod Fold
 pub mod Measured
 pub mod Steps
 pub mod AllRound
-mod PlaneTests
+pub mod PlaneTests
+mod DirectionTests

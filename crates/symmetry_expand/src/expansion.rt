@@ -2,6 +2,7 @@
 ghost use Rattle.std.specs.Prelude.{◌≡◌, ◌+◌, ◌*◌, ◌<◌, ◌≤◌, length, IfOk, IfErr, IsTrue, true, false, MatchResult};
 ghost use Rattle.photo_table.specs.Kept.{AreGammas, AreIntensities};
 ghost use Rattle.symmetry_expand.specs.AllRound.{all_round, round_trip};
+ghost use Rattle.symmetry_expand.specs.Fold.{IsFoldedBy};
 ghost use Rattle.symmetry_expand.specs.Measured.{AreSuited, RiseWithinTurn, first_angle, in_turn, last_angle, lifted, measured_table, runs_as_needed, IsRefusal};
 ghost use Rattle.symmetry_expand.specs.Steps.{GoesRound};
 
@@ -12,9 +13,33 @@ use fx_base::Micro;
 use photo_table::PhotoTable;
 use std::alloc::{AllocError, Global};
 
-/// The table of all planes: its intensity in each direction is the measured one at the angle that stands for C, and its planes
-/// are those that stand for measured ones.
+/// The table of all planes: its intensity in each direction is the measured one at the angle that stands for C.
+///
+/// It is refused as `PlaneAngle` exactly where the measured planes don't run from 0 to 180 degrees for the mirror at 0, from 0 to 90
+/// for both, or from -90 to 90 or from 90 to 270 for the mirror at 90. It is never refused as `PlaneCount`.
 pub fn expand(
+    alloc: Global,
+    measured: Measured,
+    symmetry: Symmetry,
+) -> Result<PhotoTable, ExpandFault>
+    requires rise { RiseWithinTurn measured.planes.items }
+    requires suited { AreSuited symmetry measured.planes.items }
+    requires gammas { AreGammas measured.gammas.items }
+    requires values { AreIntensities measured.values.items }
+    requires all { length measured.values.items ≡ length measured.planes.items * length measured.gammas.items }
+    ensures folded { IfOk result (IsFoldedBy symmetry (measured_table measured.planes.items measured.gammas.items measured.values.items)) }
+    ensures table { IfOk result (λ t. t ≡ all_round symmetry (measured_table measured.planes.items measured.gammas.items measured.values.items)) }
+    ensures runs { IfOk result (λ _. runs_as_needed symmetry (first_angle measured.planes.items) (last_angle measured.planes.items) ≡ true) }
+    ensures refused { IfErr result (λ e. IsRefusal e (runs_as_needed symmetry (first_angle measured.planes.items) (last_angle measured.planes.items))) }
+{
+    match all_planes(alloc, measured, symmetry) {
+        Ok(table) => Ok(table),
+        Err(fault) => Err(fault),
+    }
+}
+
+/// The table of all planes, plane by plane.
+fn all_planes(
     alloc: Global,
     measured: Measured,
     symmetry: Symmetry,
