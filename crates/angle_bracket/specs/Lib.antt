@@ -1,4 +1,5 @@
 pub mod Angles
 pub mod Direction
+pub mod Found
 pub mod DirectionTests
 pub mod Laws

@@ -27,7 +27,7 @@ fn quarter_angle(table: &TangentTable, x: u64, y: u64) -> Arc
     requires x { x < 2 ^ 40 }
     requires y { y < 2 ^ 40 }
     ensures meets { (n : ℕ) → Meets (micros_between result.lo result.hi) (quarter_angle_of n x y) }
-    ensures narrow { result.hi ≤ result.lo + 31250 }
+    ensures narrow { result.hi ≤ result.lo + 250 }
     ensures order { result.lo ≤ result.hi }
     ensures within { result.hi ≤ 90000000 }
     ensures positive { 0 < y → 0 < result.hi }
@@ -42,12 +42,12 @@ fn quarter_angle(table: &TangentTable, x: u64, y: u64) -> Arc
 /// The angle from the x axis towards y of a direction that has this angle with the x axis; `west` is whether its x is negative,
 /// `south` whether its y is.
 fn in_quarter(west: bool, south: bool, angle: Arc) -> Arc
-    requires narrow { angle.hi ≤ angle.lo + 31250 }
+    requires narrow { angle.hi ≤ angle.lo + 250 }
     requires order { angle.lo ≤ angle.hi }
     requires within { angle.hi ≤ 90000000 }
     requires south { IsTrue south → 0 < angle.hi }
     ensures meets { (t : Interval) → Meets (micros_between angle.lo angle.hi) t → Meets (micros_between result.lo result.hi) (in_quarter_of west south t) }
-    ensures narrow { result.hi ≤ result.lo + 31250 }
+    ensures narrow { result.hi ≤ result.lo + 250 }
     ensures order { result.lo ≤ result.hi }
     ensures below { result.lo < 360000000 }
 {
@@ -70,11 +70,11 @@ fn in_quarter(west: bool, south: bool, angle: Arc) -> Arc
 /// The angle less a turn, the lower end brought into 0 to below 360 degrees.
 fn turned_back(angle: Arc, turn: u16) -> Arc
     requires turn { turn < 360 }
-    requires narrow { angle.hi ≤ angle.lo + 31250 }
+    requires narrow { angle.hi ≤ angle.lo + 250 }
     requires order { angle.lo ≤ angle.hi }
     requires below { angle.lo < 360000000 }
     ensures meets { (t : Interval) → Meets (micros_between angle.lo angle.hi) t → MeetsOnCircle (micros_between result.lo result.hi) (brought (less_turn turn t)) }
-    ensures narrow { result.hi ≤ result.lo + 31250 }
+    ensures narrow { result.hi ≤ result.lo + 250 }
     ensures order { result.lo ≤ result.hi }
     ensures below { result.lo < 360000000 }
 {
@@ -98,7 +98,7 @@ pub fn turn_angle(table: &TangentTable, dx: i32, dy: i32, turn: u16) -> Bracket
     requires dy { unsigned_abs dy ≤ 200000 }
     requires turn { turn < 360 }
     ensures meets { (n : ℕ) → MeetsOnCircle (of_bracket result) (direction_c n dx dy turn) }
-    ensures narrow { result.hi.0 ≤ℤ (result.lo.0 +ℤ pos 31250) }
+    ensures narrow { result.hi.0 ≤ℤ (result.lo.0 +ℤ pos 250) }
     ensures natural { pos 0 ≤ℤ result.lo.0 }
     ensures below { result.lo.0 <ℤ pos 360000000 }
     ensures in_order { result.lo.0 ≤ℤ result.hi.0 }
@@ -120,7 +120,7 @@ pub fn gamma(table: &TangentTable, dx: i32, dy: i32, dz: i32) -> Bracket
     requires dz { unsigned_abs dz ≤ 200000 }
     requires some { 0 < unsigned_abs dx + unsigned_abs dy + unsigned_abs dz }
     ensures meets { (n : ℕ) → Meets (of_bracket result) (direction_gamma n dx dy dz) }
-    ensures narrow { result.hi.0 ≤ℤ (result.lo.0 +ℤ pos 31250) }
+    ensures narrow { result.hi.0 ≤ℤ (result.lo.0 +ℤ pos 250) }
     ensures natural { pos 0 ≤ℤ result.lo.0 }
     ensures within { result.hi.0 ≤ℤ pos 180000000 }
     ensures in_order { result.lo.0 ≤ℤ result.hi.0 }

@@ -7,10 +7,10 @@ use std::test::Fail;
 /// A whole turn, in millionths of a degree.
 const TURN: i64 = 360_000_000;
 
-/// The bracket is at most 31,250 wide and holds the angle of which this is the whole number of millionths.
+/// The bracket is at most 250 millionths wide and holds the angle of which this is the whole number of millionths.
 fn holds(bracket: Bracket, angle: i64) -> bool {
     let (lo, hi) = (bracket.lo.0, bracket.hi.0);
-    lo <= angle && angle <= hi && hi as i128 - lo as i128 <= 31_250
+    lo <= angle && angle <= hi && hi as i128 - lo as i128 <= 250
 }
 
 #[test]
@@ -18,12 +18,12 @@ fn slants_of_equal_sides_of_none_and_of_a_small_one(rt: HostRuntime) -> Result<(
     let table = TangentTable::build(rt.alloc())?;
     let equal = slant(&table, 36_000_000, 36_000_000);
     assert_eq!(rt; equal.hi.0, 45_000_000);
-    assert!(rt; equal.lo.0 >= 44_968_750);
+    assert!(rt; equal.lo.0 >= 44_999_750);
     assert_eq!(rt; slant(&table, 36_000_000, 0).lo.0, 0);
     // 572.96 or so
     let small = slant(&table, 10_000_000_000, 1);
-    assert_eq!(rt; small.lo.0, 0);
-    assert!(rt; small.hi.0 == 15_625 || small.hi.0 == 31_250);
+    assert!(rt; small.lo.0 == 375 || small.lo.0 == 500);
+    assert!(rt; small.hi.0 == 625 || small.hi.0 == 750);
     Ok(())
 }
 
