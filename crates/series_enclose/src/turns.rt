@@ -6,6 +6,7 @@ ghost use Rattle.series_enclose.specs.Turns.{IsStart, IsSum};
 use crate::bounds::{Bounds, product_over};
 
 /// What term k is divided by, besides the square of x, to give term k + 1.
+#[inline(always)]
 fn divisor(k: u64, offset: u64) -> u64
     requires k { k ≤ 10 }
     requires offset { offset ≤ 1 }
@@ -17,6 +18,7 @@ fn divisor(k: u64, offset: u64) -> u64
 
 /// The sum of eight terms, and that of seven: each turn takes one term away and adds the next. `offset` is 1 for a sine, 0 for a
 /// cosine.
+#[inline(always)]
 pub fn series_bounds(offset: u64, first: Bounds, second: Bounds, square: Bounds) -> Bounds
     requires offset { offset ≤ 1 }
     requires first_order { first.lo ≤ first.hi }
