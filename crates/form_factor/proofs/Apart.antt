@@ -5,19 +5,9 @@ use Rattle.std.proofs.lemmas.Bool.{cases_lt}
 use Rattle.room_layout.specs.declared.geometry.Face.{Face}
 use Rattle.room_layout.specs.declared.geometry.Face.TheVariants.{Up, Down, East, West, North, South}
 use Rattle.room_layout.specs.Place.{Place, in_front, apart, squared_distance}
+use Rattle.room_layout.proofs.Apart.{square_le}
 use Rattle.form_factor.specs.Coefficient.{fronts}
 use Rattle.form_factor.specs.Laws.{FrontsAreNear}
-
-square_le : (a b : ℕ) → a ≤ b → a * a ≤ b * b
-square_le a b h = mul-le-mul {n₁ = a} {m₁ = a} {n₂ = b} {m₂ = b} h h
-
-pub apart_small : (a b : ℕ) → a ≤ 200000 → b ≤ 200000 → apart a b ≤ 200000
-apart_small a b p q = omega arith
-
-pub square_small : (a b : ℕ) → a ≤ 200000 → b ≤ 200000 → apart a b * apart a b ≤ 40000000000
-square_small a b p q = square_le (apart a b) 200000 (apart_small a b p q)
-
-pub ruleset squares = (apart_small, square_small)
 
 pub product_small : (a b : ℕ) → a ≤ 200000 → b ≤ 200000 → a * b ≤ 40000000000
 product_small a b p q = mul-le-mul {n₁ = a} {m₁ = b} {n₂ = 200000} {m₂ = 200000} p q

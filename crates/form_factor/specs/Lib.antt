@@ -1,5 +1,4 @@
 pub mod Coefficient
 pub mod CoefficientTests
 pub mod Weights
-pub mod Positions
 pub mod Laws

@@ -8,8 +8,8 @@ mod position;
 mod reach;
 mod weigh;
 
-pub use position::{Position, in_front, position_of, squared_distance};
 pub use reach::{factor, point_factor};
+pub use room_layout::{Position, in_front, position_of, squared_distance};
 
 #[cfg(test)]
 mod tests;

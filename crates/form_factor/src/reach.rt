@@ -7,11 +7,11 @@ ghost use Rattle.patch_mesh.specs.Bounds.{IsPatchIn, IsPointIn, largest_room};
 ghost use Rattle.form_factor.specs.Coefficient.{coefficient, loose_coefficient};
 ghost use Rattle.form_factor.specs.Weights.{IsCoefficient, of_weight};
 
-use crate::position::{fronts, position_of, squared_distance};
+use crate::position::fronts;
 use crate::weigh::weigh;
 use fx_base::Weight;
 use patch_mesh::Patch;
-use room_layout::{Face, Point};
+use room_layout::{Face, Point, position_of, squared_distance};
 
 const NOTHING: Weight = Weight { lo: 0, hi: 0 };
 

@@ -5,6 +5,7 @@ pub mod Elements
 pub mod Accepts
 pub mod AcceptsLamps
 pub mod AcceptsRoom
+pub mod Apart
 pub mod Plain
 pub mod Document
 pub mod Reordered

@@ -91,8 +91,12 @@ numbers count lo hi s d = array s d >>= all_numbers count lo hi s
 abbrev pub is_printed : ℕ → Bool
 is_printed byte = nat_le 32 byte && not (byte == 127)
 
+-- 1 to `most` bytes, each of them printed
+abbrev pub is_printable : ℕ → List ℕ → Bool
+is_printable most bytes = in_range 1 most (length bytes) && list_all is_printed bytes
+
 abbrev pub is_name : List ℕ → Bool
-is_name bytes = in_range 1 255 (length bytes) && list_all is_printed bytes
+is_name bytes = is_printable 255 bytes
 
 -- a text that may name a file
 abbrev pub name_text : Spot → Data → Result (List ℕ) RoomFault

@@ -1,5 +1,6 @@
 pub mod Place
 pub mod PlaceTests
+pub mod Positions
 pub mod Checks
 pub mod Served
 pub mod Layout

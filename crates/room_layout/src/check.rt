@@ -4,7 +4,7 @@ ghost use Rattle.std.specs.BTreeMap.{keys};
 ghost use Rattle.std.specs.List.{list_all};
 ghost use Rattle.toml.specs.Data.{get_member};
 ghost use Rattle.toml.specs.View.{view, table_view};
-ghost use Rattle.room_layout.specs.Checks.{number, numbers, all_numbers, each, array, is_integer, name_text, table_with, elements, required, optional, where_given, is_name, is_among, has_only, is_printed};
+ghost use Rattle.room_layout.specs.Checks.{number, numbers, all_numbers, each, array, is_integer, name_text, table_with, elements, required, optional, where_given, is_printable, is_among, has_only, is_printed};
 
 use crate::{RoomFault, Spot};
 use toml::{Table, Value};
@@ -95,6 +95,9 @@ fn are_integers(items: &[Value]) -> bool
     items.iter().all(|item| item.is_integer())
 }
 
+/// How many bytes the name of a file has at most.
+const LONGEST_NAME: usize = 255;
+
 /// A text that may name a file.
 pub fn name_text(value: &Value, spot: Spot) -> Result<&str, RoomFault>
     ensures given { IfOk result (λ text. name_text spot (view value.now) ≡ Ok text.now) }
@@ -103,17 +106,17 @@ pub fn name_text(value: &Value, spot: Spot) -> Result<&str, RoomFault>
     let Some(text) = value.as_str() else {
         return Err(RoomFault::Kind(spot));
     };
-    if !is_name(text) {
+    if !is_printable(text, LONGEST_NAME) {
         return Err(RoomFault::Range(spot));
     }
     Ok(text)
 }
 
-/// Whether a text has 1 to 255 bytes and no control character.
-fn is_name(text: &str) -> bool
-    ensures { result ≡ is_name text.now }
+/// Whether a text has 1 to `most` bytes and no control character, neither below 0x20 nor 0x7F.
+pub fn is_printable(text: &str, most: usize) -> bool
+    ensures { result ≡ is_printable most text.now }
 {
-    let length_fits = 1 <= text.len() && text.len() <= 255;
+    let length_fits = 1 <= text.len() && text.len() <= most;
     length_fits && all_printed(text.as_bytes())
 }
 

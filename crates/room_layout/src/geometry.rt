@@ -1,4 +1,5 @@
 //! Points, sizes and faces. A face is parallel to two axes of the room.
+ghost use Rattle.std.specs.Prelude.{◌≤◌};
 
 /// A point in the room, in half millimetres from the corner where floor, wall x = 0 and wall y = 0 meet.
 #[derive(Clone, Copy, Debug, PartialEq, Eq)]
@@ -6,6 +7,18 @@ pub struct Point {
     pub x: i32,
     pub y: i32,
     pub z: i32,
+}
+
+/// A place in half mm from the corner where floor, wall x = 0 and wall y = 0 meet. It lies within 200,000 half mm, which is 100 m,
+/// of that corner along each axis, so that products of two distances fit 64 bits.
+#[derive(Clone, Copy)]
+pub struct Position {
+    pub x: u64,
+    pub y: u64,
+    pub z: u64,
+    pub ghost x_in_reach: { x ≤ 200000 },
+    pub ghost y_in_reach: { y ≤ 200000 },
+    pub ghost z_in_reach: { z ≤ 200000 },
 }
 
 /// A room's edges, or a place in a room, in millimetres.

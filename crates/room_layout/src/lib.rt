@@ -9,6 +9,7 @@ mod geometry;
 mod lamps;
 pub mod laws;
 mod parts;
+mod position;
 mod read;
 mod room;
 mod served;
@@ -16,8 +17,10 @@ mod sizes;
 #[cfg(test)]
 mod tests;
 
+pub use check::is_printable;
 pub use fault::{Key, RoomFault, Spot};
-pub use geometry::{Face, Point, Size};
+pub use geometry::{Face, Point, Position, Size};
+pub use position::{in_front, position_of, squared_distance};
 pub use read::read_room;
 pub use room::{
     Block, Blocks, FileUse, FileUses, Lamp, Lamps, Limits, Name, Reflects, Room, Shine, TaskGrid,

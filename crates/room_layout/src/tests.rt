@@ -4,6 +4,7 @@ use std::alloc::{AllocError, Global};
 use std::test::Fail;
 
 mod edits;
+mod places;
 
 use edits::{EDITS, EVERY_KEY};
 

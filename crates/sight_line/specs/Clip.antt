@@ -3,13 +3,8 @@ use Rattle.std.specs.Prelude.{ℕ, ◌+◌, ◌*◌, ◌<◌, ◌↔◌, Option,
 use Rattle.room_layout.specs.Place.{Place}
 use Rattle.room_layout.specs.declared.room.Block.{Block}
 use Rattle.sight_line.specs.Sight.{DividesWithin}
-use Rattle.sight_line.specs.declared.window.Coordinates.{Coordinates}
 use Rattle.sight_line.specs.declared.window.Window.{Window}
 use Rattle.sight_line.specs.declared.window.Side.{Side}
-
--- the place with these coordinates
-abbrev pub place_at : Coordinates → Place
-place_at c = record { x = c.x; y = c.y; z = c.z }
 
 -- the ratio of s to r lies strictly between the bounds
 abbrev pub Allows : Window → ℕ → ℕ → Type 0

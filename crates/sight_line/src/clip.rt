@@ -1,10 +1,11 @@
 //! How a segment is clipped by the planes of a box.
 ghost use Rattle.std.specs.Prelude.{ℕ, ◌+◌, ◌*◌, ◌<◌, ◌≤◌, ◌↔◌, IsTrue};
+ghost use Rattle.room_layout.specs.Positions.{place_at};
 ghost use Rattle.sight_line.specs.Sight.{DividesWithin};
-ghost use Rattle.sight_line.specs.Clip.{IsInside, Narrows, IsOpen, IsLeft, IsWithin, place_at};
+ghost use Rattle.sight_line.specs.Clip.{IsInside, Narrows, IsOpen, IsLeft, IsWithin};
 
-use crate::window::{Coordinates, Ratio, Side, WHOLE, Window};
-use room_layout::Block;
+use crate::window::{Ratio, Side, WHOLE, Window};
+use room_layout::{Block, Position};
 
 fn is_less(a: Ratio, b: Ratio) -> bool
     ensures { IsTrue result ↔ (a.over * b.under < b.over * a.under) }
@@ -100,7 +101,7 @@ fn between_planes(window: Window, from: u64, to: u64, lo: u32, hi: u32) -> Optio
 }
 
 /// What of the segment without its ends lies in the open inside of a box; None where both ends lie outside one face, or on it.
-pub fn clipped(block: &Block, from: Coordinates, to: Coordinates) -> Option<Window>
+pub fn clipped(block: &Block, from: Position, to: Position) -> Option<Window>
     ensures { (r s : ℕ) → IsLeft result r s ↔ IsWithin (place_at from) (place_at to) block.now r s }
 {
     let x = between_planes(WHOLE, from.x, to.x, block.lo.x, block.hi.x)?;

@@ -1,27 +1,14 @@
 //! The sight line between two points.
 ghost use Rattle.std.specs.Prelude.{ℕ, ◌≡◌, ◌<◌, ◌↔◌, IsTrue, MatchOption, is_some};
 ghost use Rattle.room_layout.specs.Place.{place_of};
-ghost use Rattle.sight_line.specs.Reach.{IsInReach};
+ghost use Rattle.room_layout.specs.Positions.{IsInReach, place_at};
 ghost use Rattle.sight_line.specs.Sight.{MeetsBox, NoneMet, IsFirstMet, meets_box, is_blocked};
-ghost use Rattle.sight_line.specs.Clip.{place_at};
 
 use crate::clip::{clipped, is_open};
-use crate::window::Coordinates;
-use room_layout::{Block, Point};
-
-fn coordinates(point: Point) -> Coordinates
-    requires { IsInReach point }
-    ensures { place_at result ≡ place_of point }
-{
-    Coordinates {
-        x: point.x as u64,
-        y: point.y as u64,
-        z: point.z as u64,
-    }
-}
+use room_layout::{Block, Point, Position, position_of};
 
 /// Whether the segment between two points meets a box.
-fn is_met(block: &Block, from: Coordinates, to: Coordinates) -> bool
+fn is_met(block: &Block, from: Position, to: Position) -> bool
     ensures met { IsTrue result ↔ MeetsBox (place_at from) (place_at to) block.now }
     ensures test { result ≡ meets_box (place_at from) (place_at to) block.now }
 {
@@ -38,7 +25,7 @@ pub fn meets_block(block: &Block, from: Point, to: Point) -> bool
     ensures met { IsTrue result ↔ MeetsBox (place_of from) (place_of to) block.now }
     ensures test { result ≡ meets_box (place_of from) (place_of to) block.now }
 {
-    is_met(block, coordinates(from), coordinates(to))
+    is_met(block, position_of(from), position_of(to))
 }
 
 /// The index of the first box whose open inside holds a point of the closed segment from `from` to `to`; None exactly where there is
@@ -51,8 +38,8 @@ pub fn blocked_by(blocks: &[Block], from: Point, to: Point) -> Option<usize>
         (λ k. IsFirstMet blocks.now (place_of from) (place_of to) k) }
     ensures test { is_some result ≡ is_blocked blocks.now (place_of from) (place_of to) }
 {
-    let from = coordinates(from);
-    let to = coordinates(to);
+    let from = position_of(from);
+    let to = position_of(to);
     for (k, block) in blocks.iter().enumerate() {
         if is_met(block, from, to) {
             return Some(k);

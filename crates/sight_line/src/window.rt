@@ -3,17 +3,6 @@
 //! an end lies in the open inside of a box, so do points beside it.
 ghost use Rattle.std.specs.Prelude.{◌≡◌, ◌+◌, ◌<◌, ◌≤◌};
 
-/// The coordinates of a point in half millimetres, which aren't negative.
-#[derive(Clone, Copy)]
-pub struct Coordinates {
-    pub x: u64,
-    pub y: u64,
-    pub z: u64,
-    ghost x_in_reach: { x ≤ 200000 },
-    ghost y_in_reach: { y ≤ 200000 },
-    ghost z_in_reach: { z ≤ 200000 },
-}
-
 /// The ratio of the weight at the end of a segment to the weight at its start, as `over` to `under`. A product of two such numbers is at
 /// most 4 * 10^10, which 32 bits don't hold.
 #[derive(Clone, Copy)]

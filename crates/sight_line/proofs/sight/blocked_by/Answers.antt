@@ -11,15 +11,15 @@ loop-k-preserved c = none_more _ _ _ _ _ c.loop-k-test.true c.loop-k.invariant (
 
 pub returns-then-is_met-clause-first : goal.returns-then-is_met-clause-first
 returns-then-is_met-clause-first c =
-    rw (← c.coordinates-from.ensures, ← c.coordinates-to.ensures)
+    rw (← c.position_of-from.ensures.place, ← c.position_of-to.ensures.place)
     (first_met _ _ _ _ _ c.loop-k-test.true c.loop-k.invariant (c.if-is_met.ensures.met.0 refl))
 
 pub returns-then-is_met-clause-test : goal.returns-then-is_met-clause-test
 returns-then-is_met-clause-test c =
-    rw (← c.coordinates-from.ensures, ← c.coordinates-to.ensures)
+    rw (← c.position_of-from.ensures.place, ← c.position_of-to.ensures.place)
     (sym (one_met _ _ _ _ _ c.loop-k-test.true (sym c.if-is_met.ensures.test)))
 
 pub returns-clause-first : goal.returns-clause-first
 returns-clause-first c =
     let whole = take_all _ _ c.loop-k-test.false in
-    rw (← c.coordinates-from.ensures, ← c.coordinates-to.ensures) (none_met _ _ _ (rw whole at c.loop-k.invariant))
+    rw (← c.position_of-from.ensures.place, ← c.position_of-to.ensures.place) (none_met _ _ _ (rw whole at c.loop-k.invariant))

@@ -1,5 +1,5 @@
 use Rattle.std.proofs.Common.{◌≡◌, false, take}
-use Rattle.sight_line.specs.Clip.{place_at}
+use Rattle.room_layout.specs.Positions.{place_at}
 use Rattle.sight_line.specs.Sight.{is_blocked}
 use Rattle.sight_line.proofs.sight.blocked_by.Given as goal
 

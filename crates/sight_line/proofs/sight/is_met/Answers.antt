@@ -1,5 +1,5 @@
 use Rattle.std.proofs.Common.{IsTrue, false}
-use Rattle.sight_line.specs.Clip.{place_at}
+use Rattle.room_layout.specs.Positions.{place_at}
 use Rattle.sight_line.proofs.Ends.{meets_within, within_meets}
 use Rattle.sight_line.proofs.Decided.{same_test, decided}
 use Rattle.sight_line.proofs.sight.is_met.Goals as goal
