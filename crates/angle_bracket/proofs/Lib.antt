@@ -3,5 +3,5 @@ pub mod Found
 pub mod Meeting
 pub mod Ordered
 pub mod RowTest
-pub mod Steps
+pub mod Neighbours
 pub mod Tangents

@@ -19,7 +19,7 @@ use Rattle.series_enclose.proofs.PiLaws.{pi_nested, pi_above_three}
 use Rattle.series_enclose.proofs.Sizes.{sine_below}
 use Rattle.series_enclose.proofs.SlantLaws.{sine_high_rises, cosine_low_falls, cosine_high_falls, IsBelowSlope, IsAboveSlope, square_times, square_strict}
 use Rattle.angle_bracket.proofs.Candidates.{low_is_below, high_is_above, low_within}
-use Rattle.angle_bracket.proofs.Steps.{tan_step}
+use Rattle.angle_bracket.proofs.Neighbours.{tan_step}
 
 -- ---- squares of ticks times a side
 

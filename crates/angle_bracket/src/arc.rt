@@ -1,3 +1,4 @@
+//! Angles between two ends in whole millionths of a degree.
 ghost use Rattle.std.specs.Prelude.{◌≡◌, ◌+◌, ◌-◌, ◌*◌, ◌≤◌, pos};
 
 use fx_base::{Bracket, Micro};

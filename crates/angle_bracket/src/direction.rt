@@ -1,3 +1,4 @@
+//! The angles C and gamma of a direction, by octants and quarters from the angle of a slope.
 ghost use Rattle.std.specs.Prelude.{◌≡◌, ℕ, ◌+◌, ◌*◌, ◌^◌, ◌<◌, ◌≤◌, ◌+ℤ◌, ◌≤ℤ◌, ◌<ℤ◌, pos, IsTrue, unsigned_abs};
 ghost use Rattle.fx_base.specs.Interval.{Interval, Meets, MeetsOnCircle};
 ghost use Rattle.fx_base.specs.Units.{of_bracket, micros_between};

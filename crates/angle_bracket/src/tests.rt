@@ -1,3 +1,4 @@
+//! Brackets against angles from outside.
 use crate::{gamma, slant, turn_angle};
 use fx_base::Bracket;
 use series_enclose::TangentTable;

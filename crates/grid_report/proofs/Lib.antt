@@ -1,4 +1,4 @@
-pub mod PointSteps
+pub mod PointSums
 pub mod PointOrder
 pub mod Near
 pub mod Composed

@@ -12,7 +12,7 @@ use Rattle.radiosity_solve.specs.Shown.{IsShownLower, IsShownUpper}
 use Rattle.fx_base.specs.Rounded.{down_to, up_to}
 use Rattle.radiosity_solve.proofs.Compose.{lower_below, upper_above, lower_within, upper_within}
 use Rattle.radiosity_solve.proofs.Fractions.{has_one_fraction_solution}
-use Rattle.grid_report.proofs.PointSteps.{lower_sum_below, lower_sum_near, upper_sum_above, upper_sum_near, rounding_most}
+use Rattle.grid_report.proofs.PointSums.{lower_sum_below, lower_sum_near, upper_sum_above, upper_sum_near, rounding_most}
 
 -- ---- the light is the solution of the elimination
 

@@ -7,7 +7,7 @@ use Rattle.interval_system.specs.Radiosity.{Radiosity, Light, IsLightOf, AreRows
 use Rattle.radiosity_solve.proofs.Fractions.{solutions_ordered}
 use Rattle.scene_system.specs.Laws.{HasEndsInOrder}
 use Rattle.grid_report.proofs.Near.{lower_is, upper_is}
-use Rattle.grid_report.proofs.PointSteps.{value_rises}
+use Rattle.grid_report.proofs.PointSums.{value_rises}
 
 light_order : (s : Radiosity) (light : Light) → IsLightOf s.patches light → AreRowsBelowOne s.patches → HasEndsInOrder s
     → (j : ℕ) → j < s.patches.size → light.lower j ≤ᶠ light.upper j

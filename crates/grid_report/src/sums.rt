@@ -1,4 +1,4 @@
-// The average and the uniformity of the values at task points.
+//! The average and the uniformity of the values at task points.
 ghost use Rattle.std.specs.Prelude.{◌≡◌, ℕ, ◌+◌, ◌*◌, ◌/◌, ◌^◌, ◌<◌, ◌≤◌, ◌≤ℤ◌, pos, min, All, length, IfSome, IfNone};
 ghost use Rattle.std.specs.Int.{div_ceil};
 ghost use Rattle.fx_base.specs.Units.{natural};

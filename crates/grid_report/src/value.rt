@@ -1,3 +1,4 @@
+//! The value at a task point, and a uniformity.
 use fx_base::Span;
 
 /// The illuminance at a task point, in lux; 0 where a box covers the point.

@@ -1,3 +1,4 @@
+//! How a run ends.
 ghost use Rattle.std.specs.Prelude.{◌≡◌};
 ghost use Rattle.lux_core.specs.Codes.{status_code};
 

@@ -5,6 +5,6 @@ pub mod Apart
 pub mod Falls
 pub mod Lamps
 pub mod Lights
-pub mod Made
-pub mod Seen
-pub mod Wholes
+pub mod TwoQuotients
+pub mod HiddenPairs
+pub mod RowLists

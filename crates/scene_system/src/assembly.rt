@@ -1,3 +1,4 @@
+//! A room made into a scene.
 ghost use Rattle.std.specs.Prelude.{◌<◌, ◌≤◌, All, IfOk, IfErr};
 ghost use Rattle.room_layout.specs.Accepted.{IsAccepted, IsPlainLamp};
 ghost use Rattle.scene_system.specs.Assembled.{numbers, open_points, HasNearWeights, IsSceneOf, IsWellFormed};

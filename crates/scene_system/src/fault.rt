@@ -1,3 +1,4 @@
+//! Why a room has no scene.
 /// Why a room has no scene.
 #[derive(Clone, Copy, Debug, PartialEq, Eq)]
 pub enum SceneFault {

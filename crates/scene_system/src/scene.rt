@@ -1,3 +1,4 @@
+//! The numbers of a room.
 use fx_base::Span;
 use interval_system::{IntervalSystem, Row};
 use patch_mesh::{Patch, TaskPoint};

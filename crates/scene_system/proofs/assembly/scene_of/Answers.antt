@@ -1,6 +1,6 @@
 use Rattle.std.proofs.Common.{◌∙◌, ap, length}
 use Rattle.interval_system.specs.System.{IsSystem}
-use Rattle.scene_system.proofs.Wholes.{is_system, well_formed}
+use Rattle.scene_system.proofs.RowLists.{is_system, well_formed}
 use Rattle.scene_system.proofs.assembly.scene_of.Goals as goal
 
 pub from_rows-system-requires : goal.from_rows-system-requires

@@ -1,5 +1,5 @@
 use Rattle.scene_system.proofs.Falls.{made_meets, made_near, made_most}
-use Rattle.scene_system.proofs.Made.{light_made}
+use Rattle.scene_system.proofs.TwoQuotients.{light_made}
 use Rattle.scene_system.proofs.light.even_share.Goals as goal
 
 pub returns-clause-meets : goal.returns-clause-meets

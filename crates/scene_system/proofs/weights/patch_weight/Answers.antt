@@ -1,5 +1,5 @@
 use Rattle.std.proofs.Common.{sym}
-use Rattle.scene_system.proofs.Seen.{none_kept, hidden_none, seen_kept}
+use Rattle.scene_system.proofs.HiddenPairs.{none_kept, hidden_none, seen_kept}
 use Rattle.scene_system.proofs.weights.patch_weight.Goals as goal
 
 pub returns-then-open-eq0 : goal.returns-then-open-eq0
