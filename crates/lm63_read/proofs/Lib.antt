@@ -1,0 +1,14 @@
+pub mod Cut
+pub mod Fits
+pub mod FitsHead
+pub mod Followed
+pub mod Heads
+pub mod Kept
+pub mod Multiplied
+pub mod Places
+pub mod Rounds
+pub mod Runs
+pub mod Said
+pub mod Steps
+pub mod Unfolds
+pub mod Whole

@@ -1,0 +1,14 @@
+pub mod Angles
+pub mod Cursors
+pub mod FaultText
+pub mod FileTests
+pub mod Files
+pub mod Grammar
+pub mod Head
+pub mod Held
+pub mod Items
+pub mod Reads
+pub mod Sizes
+pub mod Spans
+pub mod Tables
+pub mod Values
