@@ -53,7 +53,7 @@ fn all_planes(
     ensures runs { IfOk result (λ _. runs_as_needed symmetry (first_angle measured.planes.items) (last_angle measured.planes.items) ≡ true) }
     ensures refused { IfErr result (λ e. IsRefusal e (runs_as_needed symmetry (first_angle measured.planes.items) (last_angle measured.planes.items))) }
 {
-    if !runs(&measured.planes, symmetry) {
+    if !planes_run(&measured.planes, symmetry) {
         return Err(ExpandFault::PlaneAngle);
     }
     let outcome = match symmetry {
@@ -69,8 +69,8 @@ fn all_planes(
     }
 }
 
-/// Whether planes run as the symmetry asks.
-fn runs(planes: &[Micro], symmetry: Symmetry) -> bool
+/// Whether measured planes run from where the symmetry has them begin to where it has them end, so that `expand` takes them.
+pub fn planes_run(planes: &[Micro], symmetry: Symmetry) -> bool
     requires { 0 < length planes.now }
     ensures { result ≡ runs_as_needed symmetry (first_angle planes.now) (last_angle planes.now) }
 {

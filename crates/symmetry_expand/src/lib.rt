@@ -8,5 +8,5 @@ mod steps;
 mod symmetry;
 mod turn;
 
-pub use expansion::expand;
+pub use expansion::{expand, planes_run};
 pub use symmetry::{ExpandFault, Measured, Stored, Symmetry, stored_planes};

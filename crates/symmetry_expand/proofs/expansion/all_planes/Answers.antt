@@ -8,7 +8,7 @@ use Rattle.symmetry_expand.proofs.expansion.all_planes.Goals.{in-Plane0, in-Plan
 pub whole_turn-outcome-requires-in-Plane90-clause-round : goal.whole_turn-outcome-requires-in-Plane90-clause-round
 whole_turn-outcome-requires-in-Plane90-clause-round c =
     let ps = c.args.measured.planes.items in
-    let r = rw (c.deref.ensures.value, c.in-Plane90.is) at (sym c.runs.ensures ∙ c.if-not-runs.false) in
+    let r = rw (c.deref.ensures.value, c.in-Plane90.is) at (sym c.planes_run.ensures ∙ c.if-not-planes_run.false) in
     plane90_round ps (plane90_runs ps c.requires.rise r)
 
 pub returns-in-Ok-clause-table : goal.returns-in-Ok-clause-table
