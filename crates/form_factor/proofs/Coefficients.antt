@@ -1,9 +1,8 @@
 -- Coefficients and the weights that meet them.
-use Rattle.std.proofs.Common.{ℕ, suc, ◌+◌, ◌*◌, ◌/◌, ◌<◌, ◌≤◌, ◌≡◌, Bool, true, false, ◌&&◌, if◌then◌else◌, nat_lt, refl, ap, ◌∙◌, arith, lit≤}
-use Rattle.std.proofs.Math.Nat.{mul-le-mul, mul-le-mul_right, div-mul-le_self, lt-div-mul-add}
-use Rattle.std.proofs.lemmas.Bool.{and_parts}
+use Rattle.std.proofs.Common.{ℕ, suc, ◌+◌, ◌*◌, ◌/◌, ◌<◌, ◌≤◌, ◌≡◌, Bool, true, false, ◌&&◌, if◌then◌else◌, nat_lt, min, inl, inr, refl, arith, lit≤}
+use Rattle.std.proofs.Math.Nat.{div-mul-le_self, div-le_of_le-mul, lt-div-mul-add}
+use Rattle.std.proofs.lemmas.Bool.{and_parts, cases_lt}
 use Rattle.std.proofs.lemmas.Bool.Decides.{nat_tests}
-use Rattle.std.specs.Int.{div_ceil}
 use Rattle.fx_base.specs.Fraction.{Fraction, ◌≤ᶠ◌, ◌+ᶠ◌, whole, ratio, half_power}
 use Rattle.fx_base.specs.Interval.{Interval, Meets, LiesIn, exact}
 use Rattle.fx_base.specs.Nesting.{IsNested}
@@ -20,73 +19,58 @@ use Rattle.patch_mesh.specs.declared.patch.Patch.{Patch}
 use Rattle.form_factor.specs.Coefficient.{kernel, fronts, coefficient, loose_coefficient}
 use Rattle.form_factor.specs.Weights.{of_weight, IsCoefficient}
 use Rattle.form_factor.specs.Laws.{CoefficientNests, CoefficientNarrows}
-use Rattle.form_factor.proofs.Rounded.{share_most, share_most_up, shares_in_order, shares_close, low_under, high_over, low_at_most_high, weight_close, weight_most, ceil_above, ceil_below}
+use Rattle.form_factor.specs.Divisor.{IsAbove, IsNear}
+use Rattle.form_factor.proofs.Divided.{low_under, high_over, one_over, over_most, times_least}
 use Rattle.form_factor.proofs.Apart.{fronts_near, fronts_far}
 use Rattle.form_factor.proofs.Kernel.{kernel_falls, ticks_below_kernel, ticks_above_kernel}
 use Rattle.form_factor.proofs.Spread.{spreads}
 
--- ---- the weight of a kernel, with pi between P and Q ticks
+-- ---- a weight between whose ends the kernel lies, with pi between P and Q ticks
 
-abbrev pub low_share : ℕ → ℕ → ℕ → ℕ
-low_share r area Q = area * 68719476736 * 68719476736 / (Q * r + area * 68719476736)
-
-abbrev pub high_share : ℕ → ℕ → ℕ → ℕ
-high_share r area P = div_ceil (area * 68719476736 * 68719476736) (P * r + area * 68719476736)
-
-abbrev pub low_weight : ℕ → ℕ → ℕ → ℕ → ℕ → ℕ
-low_weight reflect fronts r area Q = reflect * fronts * low_share r area Q / (1000 * r)
-
-abbrev pub high_weight : ℕ → ℕ → ℕ → ℕ → ℕ → ℕ
-high_weight reflect fronts r area P = div_ceil (reflect * fronts * high_share r area P) (1000 * r)
-
-pub weight_low : (reflect fronts r area Q : ℕ) (p : Fraction) → 0 < r → 0 < area → p ≤ᶠ ticks Q → ticks (low_weight reflect fronts r area Q) ≤ᶠ kernel reflect fronts r area p
-weight_low reflect fronts r area Q p far some h =
-    le_trans_f (ticks_below_kernel reflect fronts r area Q (low_weight reflect fronts r area Q) far some
-    (low_under (reflect * fronts) (1000 * r) (area * 68719476736) (Q * r + area * 68719476736) 68719476736 (low_share r area Q) (low_weight reflect fronts r area Q)
-    (div-mul-le_self (area * 68719476736 * 68719476736) (Q * r + area * 68719476736)) (div-mul-le_self (reflect * fronts * low_share r area Q) (1000 * r))))
+pub low_end : (reflect fronts r area m k Q d lo : ℕ) (p : Fraction) → 0 < r → 0 < area → 0 < m → 0 < k → p ≤ᶠ ticks Q
+    → IsAbove (1000 * (m * r)) Q (k * r) (k * area) d → lo ≡ reflect * (k * area) * 8192 * (m * fronts) / d → ticks lo ≤ᶠ kernel reflect fronts r area p
+low_end reflect fronts r area m k Q d lo p far some pm pk h above is =
+    le_trans_f (ticks_below_kernel reflect fronts r area Q lo far some
+    (low_under reflect fronts r area m k Q d lo pm pk above (rw is (div-mul-le_self (reflect * (k * area) * 8192 * (m * fronts)) d))))
     (kernel_falls reflect fronts r area p (ticks Q) some h)
 
-pub weight_high : (reflect fronts r area P : ℕ) (p : Fraction) → 0 < r → 0 < area → ticks P ≤ᶠ p → kernel reflect fronts r area p ≤ᶠ ticks (high_weight reflect fronts r area P)
-weight_high reflect fronts r area P p far some h =
+pub five_above : (reflect fronts r area m k P Q d lo : ℕ) (p : Fraction) → 0 < r → 0 < area → 0 < m → 0 < k → ticks P ≤ᶠ p
+    → 16777216 ≤ m * r → 16777216 ≤ k * (r + area) → 206158430208 ≤ Q → Q ≤ P + 1 → 0 < d → lo ≤ 68719476736
+    → IsNear (1000 * (m * r)) Q (k * r) (k * area) d → lo ≡ reflect * (k * area) * 8192 * (m * fronts) / d → kernel reflect fronts r area p ≤ᶠ ticks (lo + 5)
+five_above reflect fronts r area m k P Q d lo p far some pm pk h large wide three close pd most near is =
     le_trans_f (kernel_falls reflect fronts r area (ticks P) p some h)
-    (ticks_above_kernel reflect fronts r area P (high_weight reflect fronts r area P) far some
-    (high_over (reflect * fronts) (1000 * r) (area * 68719476736) (P * r + area * 68719476736) 68719476736 (high_share r area P) (high_weight reflect fronts r area P)
-    (ceil_above (area * 68719476736 * 68719476736) (P * r + area * 68719476736) (omega (arith, some))) (ceil_above (reflect * fronts * high_share r area P) (1000 * r) (omega (arith, far)))))
+    (ticks_above_kernel reflect fronts r area P (lo + 5) far some
+    (high_over reflect fronts r area m k P Q d lo pm pk large wide three close most near
+    (rw is (omega (arith, lt-div-mul-add {a = reflect * (k * area) * 8192 * (m * fronts)} {b = d} pd)))))
 
-times_most : (reflect fronts r : ℕ) → reflect ≤ 1000 → fronts ≤ r → reflect * fronts ≤ 1000 * r
-times_most reflect fronts r dull near = mul-le-mul {n₁ = reflect} {m₁ = fronts} {n₂ = 1000} {m₂ = r} dull near
+pub one_above : (reflect fronts r area P : ℕ) (p : Fraction) → reflect ≤ 1000 → fronts ≤ r → 0 < r → 0 < area → ticks P ≤ᶠ p
+    → kernel reflect fronts r area p ≤ᶠ ticks 68719476736
+one_above reflect fronts r area P p dull near far some h =
+    le_trans_f (kernel_falls reflect fronts r area (ticks P) p some h)
+    (ticks_above_kernel reflect fronts r area P 68719476736 far some (one_over reflect fronts r area P (times_least reflect fronts r dull near)))
 
-pub weight_narrow : (reflect fronts r area P Q : ℕ) → reflect ≤ 1000 → fronts ≤ r → 0 < r → 0 < area → Q ≤ P + 1 → 3 * 68719476736 ≤ Q
-    → high_weight reflect fronts r area P ≤ low_weight reflect fronts r area Q + 5
-weight_narrow reflect fronts r area P Q dull near far some narrow three =
-    weight_close (reflect * fronts) (1000 * r) (low_share r area Q) (high_share r area P) (omega (arith, far)) (times_most reflect fronts r dull near)
-    (shares_close (area * 68719476736) (Q * r + area * 68719476736) (P * r + area * 68719476736) r 68719476736 (low_share r area Q) (high_share r area P)
-    (omega (arith, some)) (omega (arith, mul-le-mul_right r narrow))
-    (share_most (area * 68719476736) (Q * r + area * 68719476736) 68719476736 (omega arith))
-    (let large : 68719476736 + 1 ≤ P = omega (arith, narrow, three) in omega (arith, mul-le-mul_right r large))
-    (lt-div-mul-add {a = area * 68719476736 * 68719476736} {b = Q * r + area * 68719476736} (omega (arith, some)))
-    (ceil_below (area * 68719476736 * 68719476736) (P * r + area * 68719476736) (omega (arith, some))))
+pub lo_most : (reflect fronts r area m k Q d : ℕ) → reflect ≤ 1000 → fronts ≤ r → 0 < d → IsAbove (1000 * (m * r)) Q (k * r) (k * area) d
+    → reflect * (k * area) * 8192 * (m * fronts) / d ≤ 68719476736
+lo_most reflect fronts r area m k Q d dull near pd above =
+    let most : reflect * (k * area) * 8192 * (m * fronts) ≤ d * 68719476736
+    = omega (arith, over_most reflect fronts r area m k Q d (times_least reflect fronts r dull near) above) in
+    div-le_of_le-mul d most
 
-pub weight_order : (reflect fronts r area P Q : ℕ) → 0 < r → 0 < area → P ≤ Q → low_weight reflect fronts r area Q ≤ high_weight reflect fronts r area P
-weight_order reflect fronts r area P Q far some order =
-    low_at_most_high (reflect * fronts) (1000 * r) (low_share r area Q) (high_share r area P) (omega (arith, far))
-    (shares_in_order (area * 68719476736) (Q * r + area * 68719476736) (P * r + area * 68719476736) 68719476736 (omega (arith, some)) (omega (arith, mul-le-mul_right r order)))
+-- the upper end is five ticks above the lower one, and at most one
+pub holds_above : (kern : Fraction) (lo hi : ℕ) → hi ≡ min (lo + 5) 68719476736 → kern ≤ᶠ ticks (lo + 5) → kern ≤ᶠ ticks 68719476736 → kern ≤ᶠ ticks hi
+holds_above kern lo hi e five one = elim (cases_lt (lo + 5) 68719476736) [
+  | inl w ↦ let h : hi ≡ lo + 5 = omega arith in rw h five
+  | inr w ↦ let h : hi ≡ 68719476736 = omega arith in rw h one
+]
 
-pub share_limit : (r area P : ℕ) → 0 < area → high_share r area P ≤ 68719476736
-share_limit r area P some = share_most_up (area * 68719476736) (P * r + area * 68719476736) 68719476736 (omega (arith, some)) (omega arith)
+-- a patch that reflects nothing hands on nothing
+pub dark_above : (fronts r area : ℕ) (p : Fraction) → 0 < r → 0 < area → kernel 0 fronts r area p ≤ᶠ ticks 0
+dark_above fronts r area p far some =
+    le_trans_f (kernel_falls 0 fronts r area (ticks 0) p some (le_trans_f (ticks_whole 0) (zero_le_f p)))
+    (ticks_above_kernel 0 fronts r area 0 0 far some (omega arith))
 
-pub weight_limit : (reflect fronts r area P : ℕ) → reflect ≤ 1000 → fronts ≤ r → 0 < r → 0 < area → high_weight reflect fronts r area P ≤ 68719476736
-weight_limit reflect fronts r area P dull near far some =
-    weight_most (reflect * fronts) (1000 * r) (high_share r area P) 68719476736 (omega (arith, far)) (times_most reflect fronts r dull near) (share_limit r area P some)
-
-pub times_fit : (reflect fronts r g : ℕ) → reflect ≤ 1000 → fronts ≤ r → r ≤ 120000000000 → g ≤ 68719476736 → reflect * fronts * g ≤ 8246337208320000000000000
-times_fit reflect fronts r g dull near far h =
-    let t : reflect * fronts ≤ 120000000000000 = omega (arith, times_most reflect fronts r dull near, far) in
-    mul-le-mul {n₁ = reflect * fronts} {m₁ = g} {n₂ = 120000000000000} {m₂ = 68719476736} t h
-
--- the number that the program has for it
-pub high_is : (h g reflect fronts r area P : ℕ) → g ≡ high_share r area P → h ≡ div_ceil (reflect * fronts * g) (1000 * r) → h ≡ high_weight reflect fronts r area P
-high_is h g reflect fronts r area P e k = k ∙ ap (λ (z : ℕ). div_ceil (reflect * fronts * z) (1000 * r)) e
+pub none_below : (x : Fraction) → ticks 0 ≤ᶠ x
+none_below x = le_trans_f (ticks_whole 0) (zero_le_f x)
 
 -- ---- coefficients by cases
 
@@ -121,6 +105,8 @@ nothing_is p f patch clear e = record {
   narrow = omega arith;
   order = omega arith;
   most = lit≤ tt;
+  blocked = λ _. refl;
+  behind = λ _. refl;
 }
 
 pub blocked_is : (p : Place) (f : Face) (patch : Patch) (clear : Bool) → clear ≡ false → IsCoefficient p f patch clear (record { lo = 0; hi = 0 })
@@ -128,6 +114,9 @@ blocked_is p f patch clear e = nothing_is p f patch clear (λ n. coefficient_hid
 
 pub behind_is : (p : Place) (f : Face) (patch : Patch) (clear : Bool) → fronts p f (place_of patch.centre) patch.face ≡ 0 → IsCoefficient p f patch clear (record { lo = 0; hi = 0 })
 behind_is p f patch clear e = nothing_is p f patch clear (λ n. coefficient_hidden n p f patch clear (not_both clear _ (rw e refl)))
+
+not_clear : (b : Bool) → b ≡ true → b ≡ false → ⊥
+not_clear b e f = cc
 
 pub seen_is : (p : Place) (f : Face) (patch : Patch) (clear : Bool) (d r : ℕ) (w : Weight) → clear ≡ true → 0 < d
     → d ≡ fronts p f (place_of patch.centre) patch.face → r ≡ squared_distance p (place_of patch.centre)
@@ -141,6 +130,8 @@ seen_is p f patch clear d r w is_clear some is_d is_r low high narrow order most
       narrow = narrow;
       order = order;
       most = most;
+      blocked = λ e. absurd (not_clear clear is_clear e);
+      behind = λ e. absurd (omega (arith, e, front));
     }
 
 -- what meets and is narrow lies in the loose form

@@ -1,4 +1,4 @@
-pub mod Rounded
+pub mod Divided
 pub mod Apart
 pub mod Pi
 pub mod Kernel

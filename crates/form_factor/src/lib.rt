@@ -5,6 +5,7 @@
 pub mod laws;
 mod pi_ends;
 mod position;
+mod quotient;
 mod reach;
 mod weigh;
 

@@ -13,8 +13,6 @@ use fx_base::Weight;
 use patch_mesh::Patch;
 use room_layout::{Face, Point, position_of, squared_distance};
 
-const NOTHING: Weight = Weight { lo: 0, hi: 0 };
-
 /// The coefficient of a patch at a point with this face.
 fn factor_at(at: Point, face: Face, patch: &Patch, clear: bool) -> Weight
     requires at { IsPointIn largest_room at }
@@ -25,10 +23,10 @@ fn factor_at(at: Point, face: Face, patch: &Patch, clear: bool) -> Weight
     let there = position_of(patch.centre);
     let front = fronts(&here, face, &there, patch.face);
     if front == 0 {
-        return NOTHING;
+        return Weight::NONE;
     }
     if !clear {
-        return NOTHING;
+        return Weight::NONE;
     }
     let squared = squared_distance(&here, &there);
     weigh(patch.reflect, front, squared, 4 * patch.area)

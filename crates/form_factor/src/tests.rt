@@ -2,6 +2,7 @@
 ghost use Rattle.std.specs.Prelude.{◌<◌, ◌≤◌, ◌+◌, ◌^◌, ◌≤ℤ◌, pos};
 ghost use Rattle.patch_mesh.specs.Bounds.{IsPatchIn, IsPointIn, largest_room};
 
+use crate::quotient::{guess, quotient};
 use crate::{factor, point_factor};
 use fx_base::Weight;
 use patch_mesh::Patch;
@@ -149,4 +150,16 @@ fn the_farthest_pairs_of_a_room_of_50_m_and_the_nearest_of_100_m(rt: HostRuntime
     assert!(rt; holds(opposite(100_000, 1_000, 1_000_000), 974_296));
     assert!(rt; holds(opposite(100_000, 50, 2_500), 2_315));
     assert!(rt; holds(opposite(200_000, 100_000, 10_000_000_000), 15_762_898_082));
+}
+
+// Only a division would show that a guess fails, since the quotient is right either way.
+#[test]
+fn quotients_are_guessed(rt: HostRuntime) {
+    for i in 0..200u64 {
+        let under = (1 << 35) + i.wrapping_mul(46_116_860_184_273_879);
+        let lo = i.wrapping_mul(343_597_383);
+        let over = under as u128 * lo as u128 + under as u128 / 3;
+        assert_eq!(rt; guess(over, under), lo);
+        assert_eq!(rt; quotient(over, under), lo);
+    }
 }

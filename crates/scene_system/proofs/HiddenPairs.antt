@@ -4,23 +4,8 @@ use Rattle.fx_base.specs.declared.weight.Weight.{Weight}
 use Rattle.room_layout.specs.Place.{Place}
 use Rattle.room_layout.specs.declared.geometry.Face.{Face}
 use Rattle.patch_mesh.specs.declared.patch.Patch.{Patch}
-use Rattle.form_factor.specs.Coefficient.{coefficient}
 use Rattle.form_factor.specs.Weights.{IsCoefficient}
-use Rattle.fx_base.proofs.Sums.{no_ticks}
-
-nothing : (p : Place) (f : Face) (patch : Patch) → IsCoefficient p f patch false (record { lo = 0; hi = 0 })
-unfolding coefficient
-nothing p f patch = record {
-  low = λ n. no_ticks.0;
-  high = λ n. no_ticks.1;
-  narrow = omega arith;
-  order = omega arith;
-  most = omega arith;
-}
-
--- nothing is handed on where the way isn't clear
-pub hidden_none : (p : Place) (f : Face) (patch : Patch) (clear : Bool) → clear ≡ false → IsCoefficient p f patch clear (record { lo = 0; hi = 0 })
-hidden_none p f patch clear e = rw e (nothing p f patch)
+use Rattle.form_factor.proofs.Coefficients.{blocked_is}
 
 pub seen_kept : (p : Place) (f : Face) (patch : Patch) (clear : Bool) (w : Weight) → IsCoefficient p f patch true w → clear ≡ true → IsCoefficient p f patch clear w
 seen_kept p f patch clear w h e = rw e h
@@ -31,4 +16,4 @@ no_weight_is w e h = let low : w.lo ≡ 0 = omega (arith, e, h) in rw (low, e) r
 -- a weight of 0 stays, whether the way is clear or not
 pub none_kept : (p : Place) (f : Face) (patch : Patch) (clear : Bool) (w : Weight) → IsCoefficient p f patch true w → w.hi ≡ 0 → IsCoefficient p f patch clear w
 none_kept p f patch true w h e = h
-none_kept p f patch false w h e = rw (no_weight_is w e h.order) (nothing p f patch)
+none_kept p f patch false w h e = rw (no_weight_is w e h.order) (blocked_is p f patch false refl)

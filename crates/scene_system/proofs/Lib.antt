@@ -1,5 +1,6 @@
 pub mod Orders
 pub mod Rows
+pub mod MoreRows
 pub mod Heavy
 pub mod Apart
 pub mod Falls

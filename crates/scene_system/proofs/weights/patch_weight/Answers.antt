@@ -1,5 +1,6 @@
 use Rattle.std.proofs.Common.{sym}
-use Rattle.scene_system.proofs.HiddenPairs.{none_kept, hidden_none, seen_kept}
+use Rattle.form_factor.proofs.Coefficients.{blocked_is}
+use Rattle.scene_system.proofs.HiddenPairs.{none_kept, seen_kept}
 use Rattle.scene_system.proofs.weights.patch_weight.Goals as goal
 
 pub returns-then-open-eq0 : goal.returns-then-open-eq0
@@ -9,4 +10,4 @@ pub returns-then-is_clear : goal.returns-then-is_clear
 returns-then-is_clear c = seen_kept _ _ _ _ _ c.factor-open.ensures.weight (sym c.if-is_clear.ensures)
 
 pub returns : goal.returns
-returns c = hidden_none _ _ _ _ (sym c.if-is_clear.ensures)
+returns c = blocked_is _ _ _ _ (sym c.if-is_clear.ensures)
