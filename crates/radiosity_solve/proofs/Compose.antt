@@ -15,7 +15,7 @@ use Rattle.radiosity_solve.proofs.Over.{below_over}
 use Rattle.radiosity_solve.proofs.Rate.{light-below}
 use Rattle.radiosity_solve.proofs.Fractions.{whole_k, whole_d, whole_over, whole_below, whole_solution, solution-is, solutions_ordered}
 use Rattle.radiosity_solve.proofs.Mild.{AreMild, mild, ticks_over, low_rows_below, high_rows_below}
-use Rattle.radiosity_solve.proofs.States.{below_every, above_every}
+use Rattle.radiosity_solve.proofs.NearEnough.{below_every, above_every}
 
 -- ---- where the ticks are shown
 

@@ -9,5 +9,7 @@ pub mod Over
 pub mod Fractions
 pub mod Steps
 pub mod Mild
-pub mod States
+pub mod Turned
+pub mod NearEnough
+pub mod Iterates
 pub mod Compose

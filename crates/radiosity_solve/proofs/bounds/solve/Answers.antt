@@ -1,5 +1,5 @@
 use Rattle.radiosity_solve.proofs.Mild.{mild}
-use Rattle.radiosity_solve.proofs.States.{answers_in_order, uniquely_solved}
+use Rattle.radiosity_solve.proofs.NearEnough.{answers_in_order, uniquely_solved}
 use Rattle.radiosity_solve.proofs.bounds.solve.Goals as goal
 
 pub returns-clause-in_order : goal.returns-clause-in_order

@@ -1,6 +1,6 @@
 use Rattle.std.proofs.Common.{arith}
 use Rattle.radiosity_solve.proofs.Mild.{mild}
-use Rattle.radiosity_solve.proofs.States.{upper_in_range}
+use Rattle.radiosity_solve.proofs.Turned.{upper_in_range}
 use Rattle.radiosity_solve.proofs.side.fall.Goals as goal
 
 pub greatest_change-requires-clause-into : goal.greatest_change-requires-clause-into

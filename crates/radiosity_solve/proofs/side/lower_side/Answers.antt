@@ -3,7 +3,8 @@ use Rattle.std.proofs.lemmas.List.{with_items_is}
 use Rattle.fx_base.specs.declared.Tick.{Tick}
 use Rattle.radiosity_solve.specs.Turn.{IsLowerTurn}
 use Rattle.radiosity_solve.proofs.Mild.{AreMild, mild}
-use Rattle.radiosity_solve.proofs.States.{lower_begins, start_size, lower_starts, lower_spent, lower_settled, lower_turned, lower_answer}
+use Rattle.radiosity_solve.proofs.Iterates.{lower_begins, start_size, lower_starts, lower_spent, lower_turned}
+use Rattle.radiosity_solve.proofs.NearEnough.{lower_settled, lower_answer}
 use Rattle.radiosity_solve.proofs.side.lower_side.Goals as goal
 
 pub loop-turn-init : goal.loop-turn-init

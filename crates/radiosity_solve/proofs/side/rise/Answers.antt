@@ -1,6 +1,6 @@
 use Rattle.std.proofs.Common.{arith}
 use Rattle.radiosity_solve.proofs.Mild.{mild}
-use Rattle.radiosity_solve.proofs.States.{lower_in_range}
+use Rattle.radiosity_solve.proofs.Turned.{lower_in_range}
 use Rattle.radiosity_solve.proofs.side.rise.Goals as goal
 
 pub greatest_change-requires-clause-into : goal.greatest_change-requires-clause-into

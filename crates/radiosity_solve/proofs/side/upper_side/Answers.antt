@@ -3,7 +3,8 @@ use Rattle.std.proofs.lemmas.List.{with_items_is}
 use Rattle.fx_base.specs.declared.Tick.{Tick}
 use Rattle.radiosity_solve.specs.Turn.{IsUpperTurn}
 use Rattle.radiosity_solve.proofs.Mild.{AreMild, mild}
-use Rattle.radiosity_solve.proofs.States.{upper_begins, start_size, upper_starts, upper_spent, upper_settled, upper_turned, upper_answer}
+use Rattle.radiosity_solve.proofs.Iterates.{upper_begins, start_size, upper_starts, upper_spent, upper_turned}
+use Rattle.radiosity_solve.proofs.NearEnough.{upper_settled, upper_answer}
 use Rattle.radiosity_solve.proofs.side.upper_side.Goals as goal
 
 pub loop-turn-init : goal.loop-turn-init

@@ -1,6 +1,6 @@
 use Rattle.std.proofs.Common.{◌≡◌, length, All}
 use Rattle.radiosity_solve.specs.Bounds.{IsEnd}
-use Rattle.radiosity_solve.proofs.States.{IsUpperState}
+use Rattle.radiosity_solve.proofs.Iterates.{IsUpperState}
 use Rattle.radiosity_solve.proofs.side.upper_side.Given as goal
 
 abbrev pub invariant-loop-turn : goal.invariant-loop-turn

@@ -1,6 +1,7 @@
 use Rattle.std.proofs.Common.{arith}
 use Rattle.radiosity_solve.proofs.Mild.{mild}
-use Rattle.radiosity_solve.proofs.States.{lower_in_range, lower_found}
+use Rattle.radiosity_solve.proofs.Turned.{lower_in_range}
+use Rattle.radiosity_solve.proofs.NearEnough.{lower_found}
 use Rattle.radiosity_solve.proofs.trial.lower_tried.Goals as goal
 
 pub rises_little-requires-clause-high_ends : goal.rises_little-requires-clause-high_ends

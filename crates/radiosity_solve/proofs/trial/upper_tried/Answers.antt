@@ -1,6 +1,7 @@
 use Rattle.std.proofs.Common.{arith}
 use Rattle.radiosity_solve.proofs.Mild.{mild}
-use Rattle.radiosity_solve.proofs.States.{upper_in_range, upper_found}
+use Rattle.radiosity_solve.proofs.Turned.{upper_in_range}
+use Rattle.radiosity_solve.proofs.NearEnough.{upper_found}
 use Rattle.radiosity_solve.proofs.trial.upper_tried.Goals as goal
 
 pub rises_little-requires-clause-low_ends : goal.rises_little-requires-clause-low_ends
