@@ -88,8 +88,13 @@ room_not_refused asked bytes text room accepted able (inr b) =
     ok_same : (a b : Room) → (let r : Result Room RoomFault = Ok a in r) ≡ Ok b → a ≡ b
     ok_same a b h = cc
 
-not_refused : (asked : Question) (bytes text : List ℕ) → IsAble asked bytes → IsBytesAnswer asked bytes status.Refused text → ⊥
-not_refused (question.Room asked) bytes text can given = room_not_refused asked bytes text can.room can.accepted can.able given
+-- an accepted photometric file is not refused
+ok_or_fault : {T E : Type 0} (r : Result T E) (t : T) (e : E) → r ≡ Ok t → r ≡ Err e → ⊥
+ok_or_fault r t e f g = cc
+
+not_refused : (asked : Question) (name bytes text : List ℕ) → IsAble asked bytes → IsBytesAnswer asked name bytes status.Refused text → ⊥
+not_refused (question.Room asked) name bytes text can given = room_not_refused asked bytes text can.room can.accepted can.able given
+not_refused question.Photometry name bytes text can given = ok_or_fault _ (can.0) given.fault (can.1) given.refused
 
 not_faulty : (words : List (List ℕ)) (r : Run) (asked : Question) (text : List ℕ) (c : CanAnswer words r.files) → asked ≡ c.asked
     → IsFileAnswer asked r (file_name words) status.Refused text → ⊥
@@ -97,9 +102,9 @@ not_faulty words r asked text c e (inl a) = not_absent words r text c a
 not_faulty words r asked text c e (inr (inl a)) = not_too_long words r text c a
 not_faulty words r asked text c e (inr (inr a)) =
     let same = read_bytes words r a.bytes c a.read in
-    let P : List ℕ → Type 0 = λ b. IsBytesAnswer asked b status.Refused text in
+    let P : List ℕ → Type 0 = λ b. IsBytesAnswer asked (file_name words) b status.Refused text in
     let able : IsAble asked c.bytes = subst (λ (q : Question). IsAble q c.bytes) (sym e) c.able in
-    not_refused asked c.bytes text able (subst P same a.given)
+    not_refused asked (file_name words) c.bytes text able (subst P same a.given)
 
 pub done_where_possible : (words : List (List ℕ)) (r : Run) (given : Status) (text : List ℕ) → CanAnswer words r.files → Stood r.faults.before r.faults.now
     → IsAnswer words r given text → given ≡ status.Done

@@ -10,7 +10,7 @@ use Rattle.lux_core.specs.Answers.{IsAnswer}
 use Rattle.lux_core.specs.RoomAnswers.{scene_fault_text}
 use Rattle.lux_core.specs.Runs.{Run, run}
 use Rattle.lux_core.specs.Codes.{status_code}
-use Rattle.lux_core.specs.Commands.{names_file, number_after, coordinate, question_of, file_name, usage_line}
+use Rattle.lux_core.specs.Commands.{names_file, number_after, coordinate, question_of, file_name, names_lm63, usage_line}
 use Rattle.lux_core.specs.declared.status.Status.TheVariants as status
 use Rattle.lux_core.specs.declared.words.Question.TheVariants as question
 use Rattle.lux_core.specs.declared.words.RoomQuestion.TheVariants.{Report, Sight}
@@ -89,6 +89,28 @@ name_of_the_room = refl
 asks_for_sight : question_of (sight_words (codes "100000")) ≡ Some (question.Room (Sight (point_of (record { x = 0; y = 3000; z = 40 })) (point_of (record { x = 6000; y = 14; z = 200000 }))))
 unfolding number_after
 asks_for_sight = refl
+
+asks_to_read : question_of (codes "read" ∷ codes "C.IeS" ∷ []) ≡ Some question.Photometry
+asks_to_read = refl
+
+asks_for_the_last_set : question_of (codes "read" ∷ codes "c.ies" ∷ codes "20" ∷ []) ≡ Some question.Photometry
+unfolding number_after
+asks_for_the_last_set = refl
+
+set_past_the_last : question_of (codes "read" ∷ codes "c.ies" ∷ codes "21" ∷ []) ≡ None
+unfolding number_after
+set_past_the_last = refl
+
+set_of_no_number : question_of (codes "read" ∷ codes "c.ies" ∷ codes "0" ∷ []) ≡ None
+unfolding number_after
+set_of_no_number = refl
+
+-- EULUMDAT isn't read yet
+another_name : question_of (codes "read" ∷ codes "a.ldt" ∷ []) ≡ None
+another_name = refl
+
+short_name : names_lm63 (codes "ies") ≡ false
+short_name = refl
 
 past_100_m : question_of (sight_words (codes "100001")) ≡ None
 unfolding number_after

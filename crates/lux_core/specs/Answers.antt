@@ -5,6 +5,7 @@ use Rattle.lux_io.specs.Files.{bytes_of, Rose}
 use Rattle.lux_io.specs.declared.take.TakeFault.{TakeFault}
 use Rattle.lux_io.specs.declared.take.TakeFault.TheVariants as take
 use Rattle.lux_core.specs.Commands.{question_of, file_name, usage_line}
+use Rattle.lux_core.specs.FileAnswers.{IsPhotometryAnswer, CanSum}
 use Rattle.lux_core.specs.RoomAnswers.{IsRoomAnswer, CanTell}
 use Rattle.lux_core.specs.Runs.{Run, WereRead, longest_file}
 use Rattle.lux_core.specs.declared.status.Status.{Status}
@@ -14,8 +15,9 @@ use Rattle.lux_core.specs.declared.words.Question.TheVariants as question
 
 -- ---- what the bytes of a file give
 
-abbrev pub IsBytesAnswer : Question → List ℕ → Status → List ℕ → Type 0
-IsBytesAnswer (question.Room asked) bytes given text = IsRoomAnswer asked bytes given text
+abbrev pub IsBytesAnswer : Question → (name bytes : List ℕ) → Status → List ℕ → Type 0
+IsBytesAnswer (question.Room asked) name bytes given text = IsRoomAnswer asked bytes given text
+IsBytesAnswer question.Photometry name bytes given text = IsPhotometryAnswer name bytes given text
 
 -- ---- what the name of a file gives
 
@@ -23,7 +25,7 @@ IsBytesAnswer (question.Room asked) bytes given text = IsRoomAnswer asked bytes 
 pub record IsOfBytes (asked : Question) (r : Run) (name : List ℕ) (given_status : Status) (text : List ℕ) : Type 0 where
   pub bytes : List ℕ
   pub read : WereRead r name bytes
-  pub given : IsBytesAnswer asked bytes given_status text
+  pub given : IsBytesAnswer asked name bytes given_status text
 
 -- there is no file of that name
 pub record IsAbsent (r : Run) (name text : List ℕ) : Type 0 where
@@ -84,6 +86,7 @@ IsFaultAnswer name take.Memory given text = ⊥
 -- it can be told of these bytes
 abbrev pub IsAble : Question → List ℕ → Type 0
 IsAble (question.Room asked) bytes = CanTell asked bytes
+IsAble question.Photometry bytes = CanSum bytes
 
 -- the words ask something of a file that is on the shelf and is not too long, and of whose bytes it can be told
 pub record CanAnswer (words : List (List ℕ)) (files : Option (List (List ℕ × List ℕ))) : Type 0 where

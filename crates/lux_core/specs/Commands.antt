@@ -1,6 +1,7 @@
 -- Which words are a command. Words are compared byte for byte, and nothing else is an option.
-use Rattle.std.specs.Prelude.{ℕ, Bool, false, not, ◌+◌, ◌-◌, ◌*◌, ◌&&◌, ◌||◌, ◌==◌, nat_le, List, [], ◌∷◌, length, codes, slice_index_or, Option, Some, None, if◌then◌else◌}
+use Rattle.std.specs.Prelude.{ℕ, Bool, map, drop, false, not, ◌+◌, ◌-◌, ◌*◌, ◌&&◌, ◌||◌, ◌==◌, nat_le, List, [], ◌∷◌, length, codes, slice_index_or, Option, Some, None, if◌then◌else◌}
 use Rattle.std.specs.List.{list_all}
+use Rattle.std.specs.Char.{to_ascii_lowercase}
 use Rattle.std.specs.Str.{bytes_eq}
 use Rattle.room_layout.specs.Place.{point_of, place_of_size}
 use Rattle.room_layout.specs.declared.geometry.Point.{Point}
@@ -37,15 +38,11 @@ number_after n (digit ∷ more) = number_after (n * 10 + (digit - 48)) more
 abbrev pub coordinate : List ℕ → Option ℕ
 coordinate word = if is_number word && nat_le (number_after 0 word) 100000 then Some (number_after 0 word) else None
 
+-- the number of a lamp set, from 1 to 20
+abbrev pub is_lamp_set : List ℕ → Bool
+is_lamp_set word = is_number word && nat_le 1 (number_after 0 word) && nat_le (number_after 0 word) 20
+
 -- ---- the commands
-
--- `report ROOM`
-abbrev pub asks_report : List (List ℕ) → Bool
-asks_report words = length words == 2 && bytes_eq (slice_index_or words 0 []) (codes "report") && names_file (slice_index_or words 1 [])
-
--- `sight ROOM X Y Z X Y Z`
-abbrev pub asks_sight : List (List ℕ) → Bool
-asks_sight words = length words == 8 && bytes_eq (slice_index_or words 0 []) (codes "sight") && names_file (slice_index_or words 1 [])
 
 -- the coordinate in the word of this number
 abbrev pub coordinate_at : List (List ℕ) → ℕ → Option ℕ
@@ -64,13 +61,34 @@ sight_between (Some p) (Some q) = Some (question.Room (Sight p q))
 sight_between (Some p) None = None
 sight_between None q = None
 
+-- a name that ends in `.ies`, in any mixture of capitals: such a file is read as LM-63
+abbrev pub names_lm63 : List ℕ → Bool
+names_lm63 name = bytes_eq (map to_ascii_lowercase (drop (length name - 4) name)) (codes ".ies")
+
+-- `FILE` or `FILE SET`: LM-63 knows no lamp sets, so that each of them is the whole file
+abbrev pub names_photometry : List (List ℕ) → Bool
+names_photometry words = names_lm63 (slice_index_or words 1 []) && (length words == 2 || (length words == 3 && is_lamp_set (slice_index_or words 2 [])))
+
+-- the first word is this one
+abbrev pub is_command : List ℕ → List (List ℕ) → Bool
+is_command name words = bytes_eq (slice_index_or words 0 []) name
+
+-- the second word names a file
+abbrev pub names_a_file : List (List ℕ) → Bool
+names_a_file words = nat_le 2 (length words) && names_file (slice_index_or words 1 [])
+
+-- what is asked of that file: `report ROOM`, `sight ROOM X Y Z X Y Z`, `read FILE` or `read FILE SET`. Until EULUMDAT is read, `read`
+-- is a command for LM-63 alone
+abbrev pub asked_of : List (List ℕ) → Option Question
+asked_of words =
+    if length words == 2 && is_command (codes "report") words then Some (question.Room Report)
+    else (if length words == 8 && is_command (codes "sight") words
+    then sight_between (point_at (coordinate_at words 2) (coordinate_at words 3) (coordinate_at words 4)) (point_at (coordinate_at words 5) (coordinate_at words 6) (coordinate_at words 7))
+    else (if is_command (codes "read") words && names_photometry words then Some question.Photometry else None))
+
 -- what the words ask of a file
 abbrev pub question_of : List (List ℕ) → Option Question
-question_of words =
-    if asks_report words then Some (question.Room Report)
-    else (if asks_sight words
-    then sight_between (point_at (coordinate_at words 2) (coordinate_at words 3) (coordinate_at words 4)) (point_at (coordinate_at words 5) (coordinate_at words 6) (coordinate_at words 7))
-    else None)
+question_of words = if names_a_file words then asked_of words else None
 
 -- the name of the file
 abbrev pub file_name : List (List ℕ) → List ℕ

@@ -1,4 +1,5 @@
 pub mod Answers
+pub mod FileAnswers
 pub mod RoomAnswers
 pub mod Runs
 pub mod Codes

@@ -12,3 +12,4 @@ IsWithinReach (Sight p q) = IsInReach p × IsInReach q
 
 abbrev pub IsInRange : Question → Type 0
 IsInRange (question.Room asked) = IsWithinReach asked
+IsInRange question.Photometry = Unit {0}

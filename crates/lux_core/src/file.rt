@@ -4,6 +4,7 @@ ghost use Rattle.lux_core.specs.Answers.{IsBytesAnswer, IsFaultAnswer, IsFileAns
 ghost use Rattle.lux_core.specs.Questions.{IsInRange};
 ghost use Rattle.lux_core.specs.Runs.{run};
 
+use crate::photometry::reply_to_photometry;
 use crate::reply::Reply;
 use crate::room::reply_to_room;
 use crate::status::Status;
@@ -16,13 +17,17 @@ use std::alloc::Global;
 const LONGEST_FILE: usize = 16_777_216;
 
 /// The answer to the bytes of a file.
-fn reply_to_bytes(alloc: Global, asked: Question, bytes: &[u8]) -> Result<Reply, Memory>
+fn reply_to_bytes(alloc: Global, asked: Question, name: &str, bytes: &[u8]) -> Result<Reply, Memory>
     requires { IsInRange asked }
-    ensures { IfOk result (λ r. IsBytesAnswer asked bytes.now r.status (string_bytes r.text)) }
+    ensures { IfOk result (λ r. IsBytesAnswer asked name.now bytes.now r.status (string_bytes r.text)) }
 {
     match asked {
         Question::Room(asked) => {
             let reply = reply_to_room(alloc, asked, bytes)?;
+            Ok(reply)
+        }
+        Question::Photometry => {
+            let reply = reply_to_photometry(alloc, name, bytes)?;
             Ok(reply)
         }
     }
@@ -65,7 +70,7 @@ pub fn reply_to<S: Shelf>(
 {
     match take_file(alloc, shelf, name, LONGEST_FILE) {
         Ok(bytes) => {
-            let reply = reply_to_bytes(alloc, asked, bytes.as_slice())?;
+            let reply = reply_to_bytes(alloc, asked, name, bytes.as_slice())?;
             Ok(reply)
         }
         Err(fault) => {

@@ -2,6 +2,8 @@
 #![tactic(auto)]
 
 mod file;
+mod photometry;
+mod program;
 mod reply;
 mod report;
 mod room;
@@ -11,5 +13,6 @@ mod tests;
 mod top;
 mod words;
 
+pub use program::run;
 pub use status::Status;
 pub use top::lux;

@@ -1,15 +1,18 @@
 //! The words of the command line.
-ghost use Rattle.std.specs.Prelude.{◌≡◌, ◌*◌, ◌<◌, ◌≤◌, min, map, string_bytes, length, slice_index_or, [], IfSome, pos};
+ghost use Rattle.std.specs.Prelude.{◌≡◌, ◌*◌, ◌-◌, ◌<◌, ◌≤◌, drop, min, map, string_bytes, length, slice_index_or, [], IfSome, IsTrue, pos};
 ghost use Rattle.std.specs.List.{list_all};
 ghost use Rattle.std.specs.Option.{option_map};
 ghost use Rattle.room_layout.specs.Place.{place_of_size, point_of};
 ghost use Rattle.sight_line.specs.Reach.{IsInReach};
-ghost use Rattle.lux_core.specs.Commands.{coordinate, coordinate_at, file_name, is_digit, is_number, is_plain, names_file, number_after, point_at, question_of, sight_between};
+ghost use Rattle.lux_core.specs.Commands.{coordinate, coordinate_at, file_name, is_digit, is_lamp_set, is_number, is_plain, names_a_file, names_file, names_lm63, names_photometry, asked_of, number_after, point_at, question_of, sight_between};
 ghost use Rattle.lux_core.specs.Questions.{IsInRange};
 
 use room_layout::Point;
 
 const LONGEST_NAME: usize = 4096;
+
+/// The greatest number of a lamp set.
+const LAST_SET: u32 = 20;
 
 /// The greatest coordinate in mm.
 const GREATEST_COORDINATE: u32 = 100_000;
@@ -28,6 +31,8 @@ pub enum RoomQuestion {
 pub enum Question {
     /// Something of the room whose layout it is.
     Room(RoomQuestion),
+    /// The summary of its photometry.
+    Photometry,
 }
 
 /// Whether no byte is a control character.
@@ -122,26 +127,84 @@ fn sight_of(words: &[String]) -> Option<Question>
     Some(Question::Room(RoomQuestion::Sight(from, to)))
 }
 
-/// What the words ask of the file that the second of them names; nothing where they are no command.
-pub fn question_of(words: &[String]) -> Option<Question>
-    ensures asked { result ≡ question_of (map string_bytes words.now) }
-    ensures within { IfSome result IsInRange }
-    ensures named { IfSome result (λ _. 2 ≤ length words.now) }
+/// Whether a word names a lamp set: a number from 1 to 20.
+fn is_lamp_set(word: &str) -> bool
+    ensures { result ≡ is_lamp_set word.now }
 {
-    if words.len() < 2 {
-        return None;
+    let bytes = word.as_bytes();
+    if !is_number(bytes) {
+        return false;
     }
+    let set = number_of(bytes);
+    1 <= set && set <= LAST_SET
+}
+
+/// The last four bytes, and all of them where there are fewer.
+fn last_four(bytes: &[u8]) -> &[u8]
+    ensures end { result.now ≡ drop (length bytes.now - 4) bytes.now }
+{
+    &bytes[bytes.len().saturating_sub(4)..]
+}
+
+/// Whether a file of this name is read as LM-63: its name ends in `.ies`, in any mixture of capitals.
+fn is_lm63(name: &str) -> bool
+    ensures { result ≡ names_lm63 name.now }
+{
+    let end = last_four(name.as_bytes());
+    end.eq_ignore_ascii_case(b".ies")
+}
+
+/// Whether the words after `read` name a photometric file, and a lamp set if anything.
+fn names_photometry(words: &[String]) -> bool
+    requires { 2 ≤ length words.now }
+    ensures { result ≡ names_photometry (map string_bytes words.now) }
+{
+    if !is_lm63(words[1].as_str()) {
+        return false;
+    }
+    if words.len() == 2 {
+        return true;
+    }
+    words.len() == 3 && is_lamp_set(words[2].as_str())
+}
+
+/// Whether the second word names a file.
+fn names_a_file(words: &[String]) -> bool
+    ensures named { result ≡ names_a_file (map string_bytes words.now) }
+    ensures two { IsTrue result → 2 ≤ length words.now }
+{
+    words.len() >= 2 && is_file_name(words[1].as_str())
+}
+
+/// What is asked of the file that the second word names.
+fn asked_of(words: &[String]) -> Option<Question>
+    requires { 2 ≤ length words.now }
+    ensures asked { result ≡ asked_of (map string_bytes words.now) }
+    ensures within { IfSome result IsInRange }
+{
     let command = words[0].as_str();
-    if !is_file_name(words[1].as_str()) {
-        return None;
-    }
     if words.len() == 2 && command == "report" {
         return Some(Question::Room(RoomQuestion::Report));
     }
     if words.len() == 8 && command == "sight" {
         return sight_of(words);
     }
+    if command == "read" && names_photometry(words) {
+        return Some(Question::Photometry);
+    }
     None
+}
+
+/// What the words ask of the file that the second of them names; nothing where they are no command.
+pub fn question_of(words: &[String]) -> Option<Question>
+    ensures asked { result ≡ question_of (map string_bytes words.now) }
+    ensures within { IfSome result IsInRange }
+    ensures named { IfSome result (λ _. 2 ≤ length words.now) }
+{
+    if !names_a_file(words) {
+        return None;
+    }
+    asked_of(words)
 }
 
 /// The name of the file.
