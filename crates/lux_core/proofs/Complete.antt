@@ -19,6 +19,7 @@ use Rattle.lux_core.specs.declared.words.RoomQuestion.{RoomQuestion}
 use Rattle.lux_core.specs.declared.words.RoomQuestion.TheVariants as asks
 use Rattle.lux_core.specs.declared.words.Question.{Question}
 use Rattle.lux_core.specs.declared.words.Question.TheVariants as question
+use Rattle.lux_core.specs.declared.words.Format.TheVariants.{Lm63, Eulumdat}
 use Rattle.lux_core.specs.declared.status.Status.{Status}
 use Rattle.lux_core.specs.declared.status.Status.TheVariants as status
 
@@ -94,7 +95,8 @@ ok_or_fault r t e f g = cc
 
 not_refused : (asked : Question) (name bytes text : List ℕ) → IsAble asked bytes → IsBytesAnswer asked name bytes status.Refused text → ⊥
 not_refused (question.Room asked) name bytes text can given = room_not_refused asked bytes text can.room can.accepted can.able given
-not_refused question.Photometry name bytes text can given = ok_or_fault _ (can.0) given.fault (can.1) given.refused
+not_refused (question.Photometry Lm63) name bytes text can given = ok_or_fault _ (can.0) given.fault (can.1) given.refused
+not_refused (question.Photometry (Eulumdat set)) name bytes text can given = ok_or_fault _ (can.0) given.fault (can.1) given.refused
 
 not_faulty : (words : List (List ℕ)) (r : Run) (asked : Question) (text : List ℕ) (c : CanAnswer words r.files) → asked ≡ c.asked
     → IsFileAnswer asked r (file_name words) status.Refused text → ⊥

@@ -13,6 +13,7 @@ use Rattle.lux_core.specs.Codes.{status_code}
 use Rattle.lux_core.specs.Commands.{names_file, number_after, coordinate, question_of, file_name, names_lm63, usage_line}
 use Rattle.lux_core.specs.declared.status.Status.TheVariants as status
 use Rattle.lux_core.specs.declared.words.Question.TheVariants as question
+use Rattle.lux_core.specs.declared.words.Format.TheVariants.{Lm63, Eulumdat}
 use Rattle.lux_core.specs.declared.words.RoomQuestion.TheVariants.{Report, Sight}
 
 -- ---- numbers
@@ -90,24 +91,23 @@ asks_for_sight : question_of (sight_words (codes "100000")) ≡ Some (question.R
 unfolding number_after
 asks_for_sight = refl
 
-asks_to_read : question_of (codes "read" ∷ codes "C.IeS" ∷ []) ≡ Some question.Photometry
+asks_to_read : question_of (codes "read" ∷ codes "C.IeS" ∷ []) ≡ Some (question.Photometry Lm63)
 asks_to_read = refl
 
-asks_for_the_last_set : question_of (codes "read" ∷ codes "c.ies" ∷ codes "20" ∷ []) ≡ Some question.Photometry
+asks_for_the_first_set : question_of (codes "read" ∷ codes "A.LDT" ∷ []) ≡ Some (question.Photometry (Eulumdat 1))
+asks_for_the_first_set = refl
+
+asks_for_the_last_set : question_of (codes "read" ∷ codes "a.ldt" ∷ codes "20" ∷ []) ≡ Some (question.Photometry (Eulumdat 20))
 unfolding number_after
 asks_for_the_last_set = refl
 
-set_past_the_last : question_of (codes "read" ∷ codes "c.ies" ∷ codes "21" ∷ []) ≡ None
+set_past_the_last : question_of (codes "read" ∷ codes "a.ldt" ∷ codes "21" ∷ []) ≡ None
 unfolding number_after
 set_past_the_last = refl
 
 set_of_no_number : question_of (codes "read" ∷ codes "c.ies" ∷ codes "0" ∷ []) ≡ None
 unfolding number_after
 set_of_no_number = refl
-
--- EULUMDAT isn't read yet
-another_name : question_of (codes "read" ∷ codes "a.ldt" ∷ []) ≡ None
-another_name = refl
 
 short_name : names_lm63 (codes "ies") ≡ false
 short_name = refl

@@ -17,7 +17,7 @@ use Rattle.lux_core.specs.declared.words.Question.TheVariants as question
 
 abbrev pub IsBytesAnswer : Question → (name bytes : List ℕ) → Status → List ℕ → Type 0
 IsBytesAnswer (question.Room asked) name bytes given text = IsRoomAnswer asked bytes given text
-IsBytesAnswer question.Photometry name bytes given text = IsPhotometryAnswer name bytes given text
+IsBytesAnswer (question.Photometry format) name bytes given text = IsPhotometryAnswer format name bytes given text
 
 -- ---- what the name of a file gives
 
@@ -86,7 +86,7 @@ IsFaultAnswer name take.Memory given text = ⊥
 -- it can be told of these bytes
 abbrev pub IsAble : Question → List ℕ → Type 0
 IsAble (question.Room asked) bytes = CanTell asked bytes
-IsAble question.Photometry bytes = CanSum bytes
+IsAble (question.Photometry format) bytes = CanSum format bytes
 
 -- the words ask something of a file that is on the shelf and is not too long, and of whose bytes it can be told
 pub record CanAnswer (words : List (List ℕ)) (files : Option (List (List ℕ × List ℕ))) : Type 0 where

@@ -6,6 +6,7 @@ use Rattle.std.specs.Str.{bytes_eq}
 use Rattle.room_layout.specs.Place.{point_of, place_of_size}
 use Rattle.room_layout.specs.declared.geometry.Point.{Point}
 use Rattle.lux_core.specs.declared.words.Question.{Question}
+use Rattle.lux_core.specs.declared.words.Format.TheVariants.{Lm63, Eulumdat}
 use Rattle.lux_core.specs.declared.words.Question.TheVariants as question
 use Rattle.lux_core.specs.declared.words.RoomQuestion.TheVariants.{Report, Sight}
 
@@ -39,8 +40,8 @@ abbrev pub coordinate : List ℕ → Option ℕ
 coordinate word = if is_number word && nat_le (number_after 0 word) 100000 then Some (number_after 0 word) else None
 
 -- the number of a lamp set, from 1 to 20
-abbrev pub is_lamp_set : List ℕ → Bool
-is_lamp_set word = is_number word && nat_le 1 (number_after 0 word) && nat_le (number_after 0 word) 20
+abbrev pub lamp_set : List ℕ → Option ℕ
+lamp_set word = if is_number word && nat_le 1 (number_after 0 word) && nat_le (number_after 0 word) 20 then Some (number_after 0 word) else None
 
 -- ---- the commands
 
@@ -61,13 +62,21 @@ sight_between (Some p) (Some q) = Some (question.Room (Sight p q))
 sight_between (Some p) None = None
 sight_between None q = None
 
--- a name that ends in `.ies`, in any mixture of capitals: such a file is read as LM-63
+-- a name that ends in `.ies`, in any mixture of capitals: such a file is read as LM-63, every other one as EULUMDAT
 abbrev pub names_lm63 : List ℕ → Bool
 names_lm63 name = bytes_eq (map to_ascii_lowercase (drop (length name - 4) name)) (codes ".ies")
 
--- `FILE` or `FILE SET`: LM-63 knows no lamp sets, so that each of them is the whole file
-abbrev pub names_photometry : List (List ℕ) → Bool
-names_photometry words = names_lm63 (slice_index_or words 1 []) && (length words == 2 || (length words == 3 && is_lamp_set (slice_index_or words 2 [])))
+-- the lamp set of `read FILE` or `read FILE SET`: the first where none is named
+abbrev pub chosen_set : List (List ℕ) → Option ℕ
+chosen_set words = if length words == 2 then Some 1 else (if length words == 3 then lamp_set (slice_index_or words 2 []) else None)
+
+-- LM-63 knows no lamp sets, so that each of them is the whole file
+abbrev pub summary_asked : List ℕ → Option ℕ → Option Question
+summary_asked name (Some set) = if names_lm63 name then Some (question.Photometry Lm63) else Some (question.Photometry (Eulumdat set))
+summary_asked name None = None
+
+abbrev pub summary_of : List (List ℕ) → Option Question
+summary_of words = summary_asked (slice_index_or words 1 []) (chosen_set words)
 
 -- the first word is this one
 abbrev pub is_command : List ℕ → List (List ℕ) → Bool
@@ -77,14 +86,13 @@ is_command name words = bytes_eq (slice_index_or words 0 []) name
 abbrev pub names_a_file : List (List ℕ) → Bool
 names_a_file words = nat_le 2 (length words) && names_file (slice_index_or words 1 [])
 
--- what is asked of that file: `report ROOM`, `sight ROOM X Y Z X Y Z`, `read FILE` or `read FILE SET`. Until EULUMDAT is read, `read`
--- is a command for LM-63 alone
+-- what is asked of that file: `report ROOM`, `sight ROOM X Y Z X Y Z`, `read FILE` or `read FILE SET`
 abbrev pub asked_of : List (List ℕ) → Option Question
 asked_of words =
     if length words == 2 && is_command (codes "report") words then Some (question.Room Report)
     else (if length words == 8 && is_command (codes "sight") words
     then sight_between (point_at (coordinate_at words 2) (coordinate_at words 3) (coordinate_at words 4)) (point_at (coordinate_at words 5) (coordinate_at words 6) (coordinate_at words 7))
-    else (if is_command (codes "read") words && names_photometry words then Some question.Photometry else None))
+    else (if is_command (codes "read") words then summary_of words else None))
 
 -- what the words ask of a file
 abbrev pub question_of : List (List ℕ) → Option Question

@@ -1,7 +1,10 @@
 -- The ranges of what is asked.
+use Rattle.std.specs.Prelude.{ℕ, ◌≤◌}
 use Rattle.sight_line.specs.Reach.{IsInReach}
 use Rattle.lux_core.specs.declared.words.Question.{Question}
 use Rattle.lux_core.specs.declared.words.Question.TheVariants as question
+use Rattle.lux_core.specs.declared.words.Format.{Format}
+use Rattle.lux_core.specs.declared.words.Format.TheVariants.{Lm63, Eulumdat}
 use Rattle.lux_core.specs.declared.words.RoomQuestion.{RoomQuestion}
 use Rattle.lux_core.specs.declared.words.RoomQuestion.TheVariants.{Report, Sight}
 
@@ -10,6 +13,15 @@ abbrev pub IsWithinReach : RoomQuestion → Type 0
 IsWithinReach Report = Unit {0}
 IsWithinReach (Sight p q) = IsInReach p × IsInReach q
 
+-- the number of a lamp set
+abbrev pub IsLampSet : ℕ → Type 0
+IsLampSet set = (1 ≤ set) × (set ≤ 20)
+
+-- a format that chooses no lamp set, or one by its number
+abbrev pub IsFormat : Format → Type 0
+IsFormat Lm63 = Unit {0}
+IsFormat (Eulumdat set) = IsLampSet set
+
 abbrev pub IsInRange : Question → Type 0
 IsInRange (question.Room asked) = IsWithinReach asked
-IsInRange question.Photometry = Unit {0}
+IsInRange (question.Photometry format) = IsFormat format

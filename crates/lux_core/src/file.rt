@@ -1,5 +1,5 @@
 //! The answer to what is asked of a file: the file is taken from the shelf, and its bytes answer.
-ghost use Rattle.std.specs.Prelude.{◌≡◌, IfOk, string_bytes};
+ghost use Rattle.std.specs.Prelude.{◌≡◌, ◌≤◌, length, IfOk, string_bytes};
 ghost use Rattle.lux_core.specs.Answers.{IsBytesAnswer, IsFaultAnswer, IsFileAnswer};
 ghost use Rattle.lux_core.specs.Questions.{IsInRange};
 ghost use Rattle.lux_core.specs.Runs.{run};
@@ -18,7 +18,8 @@ const LONGEST_FILE: usize = 16_777_216;
 
 /// The answer to the bytes of a file.
 fn reply_to_bytes(alloc: Global, asked: Question, name: &str, bytes: &[u8]) -> Result<Reply, Memory>
-    requires { IsInRange asked }
+    requires asked { IsInRange asked }
+    requires few { length bytes.now ≤ 16777216 }
     ensures { IfOk result (λ r. IsBytesAnswer asked name.now bytes.now r.status (string_bytes r.text)) }
 {
     match asked {
@@ -26,8 +27,8 @@ fn reply_to_bytes(alloc: Global, asked: Question, name: &str, bytes: &[u8]) -> R
             let reply = reply_to_room(alloc, asked, bytes)?;
             Ok(reply)
         }
-        Question::Photometry => {
-            let reply = reply_to_photometry(alloc, name, bytes)?;
+        Question::Photometry(format) => {
+            let reply = reply_to_photometry(alloc, format, name, bytes)?;
             Ok(reply)
         }
     }

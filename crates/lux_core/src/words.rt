@@ -4,8 +4,8 @@ ghost use Rattle.std.specs.List.{list_all};
 ghost use Rattle.std.specs.Option.{option_map};
 ghost use Rattle.room_layout.specs.Place.{place_of_size, point_of};
 ghost use Rattle.sight_line.specs.Reach.{IsInReach};
-ghost use Rattle.lux_core.specs.Commands.{coordinate, coordinate_at, file_name, is_digit, is_lamp_set, is_number, is_plain, names_a_file, names_file, names_lm63, names_photometry, asked_of, number_after, point_at, question_of, sight_between};
-ghost use Rattle.lux_core.specs.Questions.{IsInRange};
+ghost use Rattle.lux_core.specs.Commands.{coordinate, coordinate_at, file_name, is_digit, lamp_set, chosen_set, is_number, is_plain, names_a_file, names_file, names_lm63, summary_of, summary_asked, asked_of, number_after, point_at, question_of, sight_between};
+ghost use Rattle.lux_core.specs.Questions.{IsInRange, IsLampSet};
 
 use room_layout::Point;
 
@@ -26,13 +26,22 @@ pub enum RoomQuestion {
     Sight(Point, Point),
 }
 
+/// As what a photometric file is read.
+#[derive(Clone, Copy, Debug, PartialEq, Eq)]
+pub enum Format {
+    /// IES LM-63, which knows no lamp sets.
+    Lm63,
+    /// EULUMDAT, with the flux of the lamp set of this number, from 1 to 20.
+    Eulumdat(u32),
+}
+
 /// What is asked of a file.
 #[derive(Clone, Copy, Debug, PartialEq, Eq)]
 pub enum Question {
     /// Something of the room whose layout it is.
     Room(RoomQuestion),
     /// The summary of its photometry.
-    Photometry,
+    Photometry(Format),
 }
 
 /// Whether no byte is a control character.
@@ -127,16 +136,20 @@ fn sight_of(words: &[String]) -> Option<Question>
     Some(Question::Room(RoomQuestion::Sight(from, to)))
 }
 
-/// Whether a word names a lamp set: a number from 1 to 20.
-fn is_lamp_set(word: &str) -> bool
-    ensures { result ≡ is_lamp_set word.now }
+/// The lamp set that a word says: a number from 1 to 20.
+fn lamp_set_of(word: &str) -> Option<u32>
+    ensures set { result ≡ lamp_set word.now }
+    ensures within { IfSome result IsLampSet }
 {
     let bytes = word.as_bytes();
     if !is_number(bytes) {
-        return false;
+        return None;
     }
     let set = number_of(bytes);
-    1 <= set && set <= LAST_SET
+    if set < 1 || LAST_SET < set {
+        return None;
+    }
+    Some(set)
 }
 
 /// The last four bytes, and all of them where there are fewer.
@@ -154,18 +167,31 @@ fn is_lm63(name: &str) -> bool
     end.eq_ignore_ascii_case(b".ies")
 }
 
-/// Whether the words after `read` name a photometric file, and a lamp set if anything.
-fn names_photometry(words: &[String]) -> bool
-    requires { 2 ≤ length words.now }
-    ensures { result ≡ names_photometry (map string_bytes words.now) }
+/// The lamp set that the words choose, the first where they name none.
+fn chosen_set(words: &[String]) -> Option<u32>
+    ensures set { result ≡ chosen_set (map string_bytes words.now) }
+    ensures within { IfSome result IsLampSet }
 {
-    if !is_lm63(words[1].as_str()) {
-        return false;
-    }
     if words.len() == 2 {
-        return true;
+        return Some(1);
     }
-    words.len() == 3 && is_lamp_set(words[2].as_str())
+    if words.len() == 3 {
+        return lamp_set_of(words[2].as_str());
+    }
+    None
+}
+
+/// What `read FILE` or `read FILE SET` asks.
+fn summary_of(words: &[String]) -> Option<Question>
+    requires { 2 ≤ length words.now }
+    ensures asked { result ≡ summary_of (map string_bytes words.now) }
+    ensures within { IfSome result IsInRange }
+{
+    let set = chosen_set(words)?;
+    if is_lm63(words[1].as_str()) {
+        return Some(Question::Photometry(Format::Lm63));
+    }
+    Some(Question::Photometry(Format::Eulumdat(set)))
 }
 
 /// Whether the second word names a file.
@@ -189,8 +215,8 @@ fn asked_of(words: &[String]) -> Option<Question>
     if words.len() == 8 && command == "sight" {
         return sight_of(words);
     }
-    if command == "read" && names_photometry(words) {
-        return Some(Question::Photometry);
+    if command == "read" {
+        return summary_of(words);
     }
     None
 }

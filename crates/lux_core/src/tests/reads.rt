@@ -1,5 +1,5 @@
 //! Summaries of photometric files, and files that are refused. The numbers are worked out by hand: an intensity is the value times the
-//! factors of its file, and the refusals are those of the grammar.
+//! factors of its file, and the refusals are those of the two grammars.
 use super::{CALM, run_over};
 use crate::Status;
 use lux_io::MemShelf;
@@ -9,6 +9,29 @@ use std::test::Fail;
 
 const USAGE: &[u8] =
     b"usage: lux report ROOM | grid ROOM | read FILE [SET] | sight ROOM X Y Z X Y Z | certify ROOM | check ROOM CLAIM | trial N\n";
+
+/// An EULUMDAT file of one half-plane, 100 cd per 1000 lm in all directions and 2000 lm: lines before its angles, with these lines in
+/// place of 3, 4, 24, 28 and 29.
+fn even_ldt(
+    alloc: Global,
+    isym: &str,
+    planes: &str,
+    factor: &str,
+    kind: &str,
+    flux: &str,
+) -> Result<String, Fail> {
+    let mut text = format!(in alloc; "-\n-\n{isym}\n{planes}\n-\n2\n")?;
+    for _ in 0..17 {
+        text.push_str("-\n")?;
+    }
+    let sets = format!(in alloc; "{factor}\n-\n1\n-\n{kind}\n{flux}\n-\n-\n-\n")?;
+    text.push_str(sets.as_str())?;
+    for _ in 0..10 {
+        text.push_str("-\n")?;
+    }
+    text.push_str("0\n0\n180\n")?;
+    Ok(text)
+}
 
 /// A run over a shelf with one file.
 fn read(
@@ -26,7 +49,130 @@ fn read(
 }
 
 #[test]
-fn a_file_is_summed_up_or_refused(rt: HostRuntime) -> Result<(), Fail> {
+fn an_eulumdat_file_is_summed_up(rt: HostRuntime) -> Result<(), Fail> {
+    let alloc = rt.alloc();
+    let head = even_ldt(alloc, "1", "1", "1", "LED", "2000")?;
+    let file = format!(in alloc; "{head}100\n100\n")?;
+    let summary = b"planes 1 gammas 2 greatest 200.00 200.00\n";
+    for words in [
+        ["read", "a.ldt"].as_slice(),
+        ["read", "a.ldt", "1"].as_slice(),
+    ] {
+        read(
+            &rt,
+            alloc,
+            words,
+            "a.ldt",
+            file.as_bytes(),
+            Status::Done,
+            summary,
+        )?;
+    }
+    // a decimal comma, a last line of one byte 0x1A, and a name with capitals that isn't one of LM-63
+    let file = format!(in alloc; "{head}100,0\n100\n\u{1a}")?;
+    read(
+        &rt,
+        alloc,
+        &["read", "A.IESX"],
+        "A.IESX",
+        file.as_bytes(),
+        Status::Done,
+        summary,
+    )?;
+    Ok(())
+}
+
+#[test]
+fn an_eulumdat_file_is_refused_for_its_first_fault(rt: HostRuntime) -> Result<(), Fail> {
+    let alloc = rt.alloc();
+    let words = ["read", "a.ldt"];
+    for (isym, planes, factor, kind, flux, rest, text) in [
+        // six planes don't divide by four
+        (
+            "4",
+            "6",
+            "1",
+            "LED",
+            "2000",
+            "100\n100\n",
+            "refused a.ldt 7 Expand 1 PlaneCount\n",
+        ),
+        // the type of the lamp stands where its flux belongs
+        (
+            "1",
+            "1",
+            "1",
+            "2000",
+            "LED",
+            "100\n100\n",
+            "refused a.ldt 2 Number 29\n",
+        ),
+        (
+            "1",
+            "1",
+            "1234567890",
+            "LED",
+            "2000",
+            "100\n100\n",
+            "refused a.ldt 3 Range 24\n",
+        ),
+        (
+            "1",
+            "1",
+            "1",
+            "LED",
+            "2000",
+            "100\n",
+            "refused a.ldt 1 Short 47\n",
+        ),
+        (
+            "1",
+            "1",
+            "1",
+            "LED",
+            "2000",
+            "100\n100\nx\n",
+            "refused a.ldt 9 Trailing 48\n",
+        ),
+        (
+            "1",
+            "1",
+            "1",
+            "LED",
+            "2000",
+            "100\n-1\n",
+            "refused a.ldt 6 Negative 47\n",
+        ),
+    ] {
+        let head = even_ldt(alloc, isym, planes, factor, kind, flux)?;
+        let file = format!(in alloc; "{head}{rest}")?;
+        read(
+            &rt,
+            alloc,
+            &words,
+            "a.ldt",
+            file.as_bytes(),
+            Status::Refused,
+            text.as_bytes(),
+        )?;
+    }
+    let head = even_ldt(alloc, "1", "1", "1", "LED", "2000")?;
+    let file = format!(in alloc; "{head}100\n100\n")?;
+    let second = ["read", "a.ldt", "2"];
+    read(
+        &rt,
+        alloc,
+        &second,
+        "a.ldt",
+        file.as_bytes(),
+        Status::Refused,
+        b"refused a.ldt 4 NoLampSet\n",
+    )?;
+    Ok(())
+}
+
+#[test]
+fn an_lm_63_file_is_summed_up_or_refused(rt: HostRuntime) -> Result<(), Fail> {
     let alloc = rt.alloc();
     for (first, items, status, text) in [
         (
@@ -109,21 +255,28 @@ fn files_are_absent_or_too_long(rt: HostRuntime) -> Result<(), Fail> {
 }
 
 #[test]
-fn other_words_ask_for_no_summary(rt: HostRuntime) -> Result<(), Fail> {
+fn lamp_sets_are_plain_numbers_to_20(rt: HostRuntime) -> Result<(), Fail> {
     let alloc = rt.alloc();
     for set in ["0", "21", "01", "+1", "1.0", ""] {
         read(
             &rt,
             alloc,
-            &["read", "a.ies", set],
-            "a.ies",
+            &["read", "a.ldt", set],
+            "a.ldt",
             b"",
             Status::Usage,
             USAGE,
         )?;
     }
-    for name in ["a.ldt", "A.IESX", "ies", "a.ies "] {
-        read(&rt, alloc, &["read", name], name, b"", Status::Usage, USAGE)?;
-    }
+    let last = b"refused a.ldt 1 Short 1\n";
+    read(
+        &rt,
+        alloc,
+        &["read", "a.ldt", "20"],
+        "a.ldt",
+        b"",
+        Status::Refused,
+        last,
+    )?;
     Ok(())
 }

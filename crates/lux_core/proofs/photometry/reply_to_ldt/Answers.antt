@@ -1,4 +1,4 @@
-use Rattle.lux_core.proofs.photometry.reply_to_photometry.Goals as goal
+use Rattle.lux_core.proofs.photometry.reply_to_ldt.Goals as goal
 
 pub returns-in_ok-text-in-Err : goal.returns-in_ok-text-in-Err
 returns-in_ok-text-in-Err c =
