@@ -5,6 +5,7 @@ use Rattle.std.proofs.lemmas.Bool.Decides.{nat_tests}
 use Rattle.std.proofs.lemmas.List.{take_more}
 use Rattle.std.proofs.lemmas.Nat.{pow-add}
 use Rattle.std.proofs.Math.Nat.{mul-lt-mul_of_pos_right, one-le-pow}
+use Rattle.fx_base.proofs.Truth.{both_of}
 use Rattle.decimal_text.specs.Numbers.{is_digit, is_zero, AreDigits, worth, without_zeros}
 
 head_of : (b c : Bool) → (b && c) ≡ true → b ≡ true
@@ -14,9 +15,6 @@ head_of false c h = h
 rest_of : (b c : Bool) → (b && c) ≡ true → c ≡ true
 rest_of true c h = h
 rest_of false c h = cc
-
-both_of : (b c : Bool) → b ≡ true → c ≡ true → (b && c) ≡ true
-both_of b c h g = rw (h, g) refl
 
 -- of a list that passes a test, what is left behind some of it passes too
 pub all_behind : (p : ℕ → Bool) (n : ℕ) (xs : List ℕ) → list_all p xs ≡ true → list_all p (drop n xs) ≡ true

@@ -2,6 +2,7 @@
 use Rattle.std.proofs.Common.{ℕ, zero, suc, ◌+◌, ◌-◌, ◌<◌, ◌≤◌, ◌≡◌, List, [], ◌∷◌, length, drop, slice_index_or, arith, refl, ap, sym, ◌∙◌, nat_le, true, false, Result, Ok, Err}
 use Rattle.std.proofs.lemmas.List.{length-drop}
 use Rattle.std.proofs.lemmas.Bool.Decides.{nat_tests}
+use Rattle.fx_base.proofs.Truth.{le_false, le_true}
 use Rattle.eulumdat_read.specs.Cursors.{IsAt, IsAtEnd, Takes, lines_from}
 use Rattle.eulumdat_read.specs.Items.{line_at}
 use Rattle.eulumdat_read.specs.Lines.{lines_of}
@@ -15,12 +16,6 @@ first_left [] zero x d ys h = cc
 first_left [] (suc n) x d ys h = cc
 first_left (z ∷ xs) zero x d ys h = (omega arith, (cc, cc))
 first_left (z ∷ xs) (suc n) x d ys h = let r = first_left xs n x d ys h in let e : suc n + 1 ≡ suc (n + 1) = omega arith in (let p = r.0 in omega arith, (r.1.0, rw e r.1.1))
-
-le_true : (m n : ℕ) → m ≤ n → nat_le m n ≡ true
-le_true m n h = grind (arith, nat_tests)
-
-le_false : (m n : ℕ) → n < m → nat_le m n ≡ false
-le_false m n h = grind (arith, nat_tests)
 
 pub line_there : (lines : List (List ℕ)) (n : ℕ) (line : List ℕ) → n < length lines → slice_index_or lines n [] ≡ line → line_at lines (n + 1) ≡ Ok line
 unfolding line_at

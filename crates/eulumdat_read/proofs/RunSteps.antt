@@ -8,6 +8,7 @@ use Rattle.std.proofs.lemmas.List.{map-append, length-append, get_or_append_left
 use Rattle.std.proofs.Math.ListN.{length-map}
 use Rattle.fx_base.specs.Ends.{Ends}
 use Rattle.fx_base.specs.declared.Micro.{Micro}
+use Rattle.fx_base.proofs.Truth.{le_false, le_true}
 use Rattle.photo_table.specs.Kept.{angle_of}
 use Rattle.symmetry_expand.specs.Measured.{micro}
 use Rattle.eulumdat_read.specs.Items.{measured_at, angles_at, fluxes_at, value_at, values_at, all_blank}
@@ -15,12 +16,6 @@ use Rattle.eulumdat_read.specs.Lines.{is_blank_byte}
 use Rattle.eulumdat_read.specs.Runs.{AreAngles, ReadSoFar, span_of}
 use Rattle.eulumdat_read.specs.declared.fault.LdtFault.{LdtFault}
 use Rattle.eulumdat_read.specs.declared.fault.LdtFault.TheVariants as fault
-
-le_true : (m n : ℕ) → m ≤ n → nat_le m n ≡ true
-le_true m n h = grind (arith, nat_tests)
-
-le_false : (m n : ℕ) → n < m → nat_le m n ≡ false
-le_false m n h = grind (arith, nat_tests)
 
 -- ---- angles
 

@@ -3,9 +3,8 @@ use Rattle.std.proofs.Common.{ℕ, zero, suc, ◌+◌, ◌-◌, ◌*◌, ◌<◌
 use Rattle.std.proofs.Math.Nat.{mul-le-mul, mul-le-mul_left}
 use Rattle.std.proofs.lemmas.Bool.{cases_lt}
 use Rattle.room_layout.specs.declared.geometry.Face.{Face}
-use Rattle.room_layout.specs.declared.geometry.Face.TheVariants.{Up, Down, East, West, North, South}
-use Rattle.room_layout.specs.Place.{Place, in_front, apart, squared_distance}
-use Rattle.room_layout.proofs.Apart.{square_le}
+use Rattle.room_layout.specs.Place.{Place, in_front, squared_distance}
+use Rattle.room_layout.proofs.Apart.{ahead, behind}
 use Rattle.form_factor.specs.Coefficient.{fronts}
 use Rattle.form_factor.specs.Laws.{FrontsAreNear}
 
@@ -13,34 +12,6 @@ pub product_small : (a b : ℕ) → a ≤ 200000 → b ≤ 200000 → a * b ≤ 
 product_small a b p q = mul-le-mul {n₁ = a} {m₁ = b} {n₂ = 200000} {m₂ = 200000} p q
 
 pub ruleset products = (product_small)
-
--- one of three squares is at most their sum
-first : (a x y z : ℕ) → a ≤ x → a * a ≤ x * x + y * y + z * z
-first a x y z h = omega (arith, square_le a x h)
-
-second : (a x y z : ℕ) → a ≤ y → a * a ≤ x * x + y * y + z * z
-second a x y z h = omega (arith, square_le a y h)
-
-third : (a x y z : ℕ) → a ≤ z → a * a ≤ x * x + y * y + z * z
-third a x y z h = omega (arith, square_le a z h)
-
-ahead : (f : Face) (p q : Place) → in_front f p q * in_front f p q ≤ squared_distance p q
-unfolding in_front squared_distance
-ahead Up p q = third (q.z - p.z) (apart p.x q.x) (apart p.y q.y) (apart p.z q.z) (omega arith)
-ahead Down p q = third (p.z - q.z) (apart p.x q.x) (apart p.y q.y) (apart p.z q.z) (omega arith)
-ahead East p q = first (q.x - p.x) (apart p.x q.x) (apart p.y q.y) (apart p.z q.z) (omega arith)
-ahead West p q = first (p.x - q.x) (apart p.x q.x) (apart p.y q.y) (apart p.z q.z) (omega arith)
-ahead North p q = second (q.y - p.y) (apart p.x q.x) (apart p.y q.y) (apart p.z q.z) (omega arith)
-ahead South p q = second (p.y - q.y) (apart p.x q.x) (apart p.y q.y) (apart p.z q.z) (omega arith)
-
-behind : (g : Face) (p q : Place) → in_front g q p * in_front g q p ≤ squared_distance p q
-unfolding in_front squared_distance
-behind Up p q = third (p.z - q.z) (apart p.x q.x) (apart p.y q.y) (apart p.z q.z) (omega arith)
-behind Down p q = third (q.z - p.z) (apart p.x q.x) (apart p.y q.y) (apart p.z q.z) (omega arith)
-behind East p q = first (p.x - q.x) (apart p.x q.x) (apart p.y q.y) (apart p.z q.z) (omega arith)
-behind West p q = first (q.x - p.x) (apart p.x q.x) (apart p.y q.y) (apart p.z q.z) (omega arith)
-behind North p q = second (p.y - q.y) (apart p.x q.x) (apart p.y q.y) (apart p.z q.z) (omega arith)
-behind South p q = second (q.y - p.y) (apart p.x q.x) (apart p.y q.y) (apart p.z q.z) (omega arith)
 
 -- a product is at most the square of its greater factor
 product_most : (a b d : ℕ) → a * a ≤ d → b * b ≤ d → a * b ≤ d

@@ -6,18 +6,19 @@ use Rattle.std.proofs.lemmas.Bool.Decides.{nat_tests}
 use Rattle.fx_base.specs.Fraction.{Fraction, ◌≤ᶠ◌, ◌+ᶠ◌, whole, ratio, half_power}
 use Rattle.fx_base.specs.Interval.{Interval, Meets, LiesIn, exact}
 use Rattle.fx_base.specs.Nesting.{IsNested}
-use Rattle.fx_base.specs.Units.{ticks}
+use Rattle.fx_base.specs.Units.{of_weight, ticks}
 use Rattle.fx_base.specs.declared.weight.Weight.{Weight}
 use Rattle.fx_base.proofs.Order.{le_refl_f, le_trans_f, add_le_f, le_add_f, zero_le_f}
 use Rattle.fx_base.proofs.Near.{near_by_meeting}
 use Rattle.fx_base.proofs.Sums.{ticks_le, ticks_split, ticks_whole}
+use Rattle.fx_base.proofs.Truth.{not_second}
 use Rattle.series_enclose.specs.Series.{pi}
 use Rattle.series_enclose.proofs.PiLaws.{pi_nested, pi_above_three, pi_narrow}
 use Rattle.room_layout.specs.Place.{Place, place_of, squared_distance}
 use Rattle.room_layout.specs.declared.geometry.Face.{Face}
 use Rattle.patch_mesh.specs.declared.patch.Patch.{Patch}
 use Rattle.form_factor.specs.Coefficient.{kernel, fronts, coefficient, loose_coefficient}
-use Rattle.form_factor.specs.Weights.{of_weight, IsCoefficient}
+use Rattle.form_factor.specs.Weights.{IsCoefficient}
 use Rattle.form_factor.specs.Laws.{CoefficientNests, CoefficientNarrows}
 use Rattle.form_factor.specs.Divisor.{IsAbove, IsNear}
 use Rattle.form_factor.proofs.Divided.{low_under, high_over, one_over, over_most, times_least}
@@ -78,10 +79,6 @@ by_test : (b : Bool) (i : Interval) → (b ≡ false) → (if b then i else exac
 by_test true i e = absurd (cc)
 by_test false i e = refl
 
-not_both : (a b : Bool) → b ≡ false → (a && b) ≡ false
-not_both true b e = e
-not_both false b e = refl
-
 coefficient_hidden : (n : ℕ) (p : Place) (f : Face) (patch : Patch) (clear : Bool) → (clear && nat_lt 0 (fronts p f (place_of patch.centre) patch.face)) ≡ false
     → coefficient n p f patch clear ≡ exact (whole 0)
 unfolding coefficient
@@ -113,7 +110,7 @@ pub blocked_is : (p : Place) (f : Face) (patch : Patch) (clear : Bool) → clear
 blocked_is p f patch clear e = nothing_is p f patch clear (λ n. coefficient_hidden n p f patch clear (rw e refl))
 
 pub behind_is : (p : Place) (f : Face) (patch : Patch) (clear : Bool) → fronts p f (place_of patch.centre) patch.face ≡ 0 → IsCoefficient p f patch clear (record { lo = 0; hi = 0 })
-behind_is p f patch clear e = nothing_is p f patch clear (λ n. coefficient_hidden n p f patch clear (not_both clear _ (rw e refl)))
+behind_is p f patch clear e = nothing_is p f patch clear (λ n. coefficient_hidden n p f patch clear (not_second clear _ (rw e refl)))
 
 not_clear : (b : Bool) → b ≡ true → b ≡ false → ⊥
 not_clear b e f = cc

@@ -1,16 +1,12 @@
 -- What a weight in ticks says of a coefficient.
 use Rattle.std.specs.Prelude.{ℕ, ◌+◌, ◌≤◌, ◌≡◌, ◌^◌, Bool, false}
 use Rattle.fx_base.specs.Fraction.{◌≤ᶠ◌}
-use Rattle.fx_base.specs.Interval.{Interval}
-use Rattle.fx_base.specs.Units.{ticks, no_weight}
+use Rattle.fx_base.specs.Units.{no_weight, of_weight, ticks}
 use Rattle.fx_base.specs.declared.weight.Weight.{Weight}
 use Rattle.room_layout.specs.Place.{Place, place_of}
 use Rattle.room_layout.specs.declared.geometry.Face.{Face}
 use Rattle.patch_mesh.specs.declared.patch.Patch.{Patch}
 use Rattle.form_factor.specs.Coefficient.{coefficient, fronts}
-
-abbrev pub of_weight : Weight → Interval
-of_weight w = record { lo = ticks w.lo; hi = ticks w.hi }
 
 -- the weight meets the coefficient at every depth, is at most 5 ticks wide, and is at most 1. It is 0 at both ends where the way
 -- isn't clear, and where one of the two isn't in front of the other.

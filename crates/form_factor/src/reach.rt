@@ -5,7 +5,8 @@ ghost use Rattle.room_layout.specs.Place.{place_of};
 ghost use Rattle.room_layout.specs.declared.geometry.Face.TheVariants.{Up};
 ghost use Rattle.patch_mesh.specs.Bounds.{IsPatchIn, IsPointIn, largest_room};
 ghost use Rattle.form_factor.specs.Coefficient.{coefficient, loose_coefficient};
-ghost use Rattle.form_factor.specs.Weights.{IsCoefficient, of_weight};
+ghost use Rattle.fx_base.specs.Units.{of_weight};
+ghost use Rattle.form_factor.specs.Weights.{IsCoefficient};
 
 use crate::position::fronts;
 use crate::weigh::weigh;

@@ -10,3 +10,4 @@ pub mod SearchLaws
 pub mod Shares
 pub mod SpanSteps
 pub mod Sums
+pub mod Truth

@@ -5,6 +5,7 @@ use Rattle.std.proofs.lemmas.Bool.Decides.{nat_tests, Decides-int_eq}
 use Rattle.std.proofs.lemmas.Int.{ints}
 use Rattle.std.proofs.lemmas.List.{length-take-le, get_or-take, get_or_default}
 use Rattle.fx_base.specs.declared.micro.Micro.{Micro}
+use Rattle.fx_base.proofs.Truth.{both_of, both_true}
 use Rattle.symmetry_expand.specs.declared.symmetry.Symmetry.{Symmetry}
 use Rattle.lm63_read.specs.declared.angles.AngleKind.{AngleKind}
 use Rattle.lm63_read.specs.declared.angles.AngleKind.TheVariants.{Vertical, Horizontal}
@@ -97,13 +98,6 @@ rises_at xs i z l =
     let w : (get_or (take (i + 1) xs) (i + 1 - 1) (micro (pos 0))).0 ≡ angle xs i = rw (m, get_or-take (i + 1) xs i (micro (pos 0)) (omega arith)) refl in
     let v : last_of (take (i + 1) xs) ≡ angle xs i = ap (λ k. (get_or (take (i + 1) xs) (k - 1) (micro (pos 0))).0) n ∙ w in
     rw (n, t) (ap (λ a. int_lt a z) v)
-
-both_true : (b c : Bool) → (b && c) ≡ true → (b ≡ true) × (c ≡ true)
-both_true true c h = (refl, h)
-both_true false c h = absurd (cc)
-
-true_both : (b c : Bool) → b ≡ true → c ≡ true → (b && c) ≡ true
-true_both b c h g = rw (h, g) refl
 
 -- the test of the last one
 abbrev ends : AngleKind → List Micro → ℤ → Bool

@@ -7,6 +7,7 @@ use Rattle.std.proofs.lemmas.Int.{ints}
 use Rattle.std.proofs.lemmas.List.{get_or_default}
 use Rattle.fx_base.specs.Units.{natural}
 use Rattle.fx_base.specs.declared.micro.Micro.{Micro}
+use Rattle.fx_base.proofs.Rounding.{natural_most}
 use Rattle.photo_table.specs.Kept.{AreGammas, angle_of}
 use Rattle.symmetry_expand.specs.declared.symmetry.Symmetry.{Symmetry}
 use Rattle.symmetry_expand.specs.declared.symmetry.Symmetry.TheVariants as symmetry
@@ -94,10 +95,6 @@ natural_less : (a b : ℤ) → pos 0 ≤ℤ a → a <ℤ b → natural a < natur
 natural_less (pos m) (pos n) h g = omega (arith, ints)
 natural_less (pos m) (negsuc n) h g = absurd (omega (arith, ints))
 natural_less (negsuc m) b h g = absurd (omega (arith, ints))
-
-natural_most : (a : ℤ) (n : ℕ) → a ≤ℤ pos n → natural a ≤ n
-natural_most (pos m) n h = omega (arith, ints)
-natural_most (negsuc m) n h = omega arith
 
 pub are_gammas : (items : List (List ℕ)) (k n : ℕ) (xs : List Micro) → 2 ≤ n → AreVerticals items k n xs → AreGammas xs
 are_gammas items k n xs p h =

@@ -5,6 +5,7 @@ use Rattle.fx_base.specs.Fraction.{Fraction, ◌≤ᶠ◌, at_most}
 use Rattle.fx_base.specs.Interval.{Interval, Contains}
 use Rattle.fx_base.specs.Units.{millionths}
 use Rattle.fx_base.proofs.Order.{le_refl_f, le_trans_f, le_or_le_f, at_most_true, at_most_le, eq_refl_f}
+use Rattle.fx_base.proofs.Truth.{both_true}
 use Rattle.photo_table.specs.Angles.{is_in}
 use Rattle.photo_table.specs.Axis.{extreme}
 use Rattle.photo_table.proofs.Between.{IsOn, millionths_le}
@@ -78,11 +79,6 @@ corner_after k n i P x a h inside p on = elim (le_or_le_f (millionths (k (suc a)
 ]
 
 -- ---- the extreme value
-
-both_true : (a b : Bool) → (a && b) ≡ true → (a ≡ true) × (b ≡ true)
-both_true true true e = (refl, refl)
-both_true true false e = cc
-both_true false b e = cc
 
 pub in_contains : (i : Interval) (x : Fraction) → is_in i x ≡ true → Contains i x
 in_contains i x e =

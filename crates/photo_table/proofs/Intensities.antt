@@ -8,18 +8,14 @@ use Rattle.fx_base.specs.Units.{natural, of_span}
 use Rattle.fx_base.specs.declared.Micro.{Micro}
 use Rattle.fx_base.proofs.Order.{le_refl_f, le_trans_f, zero_le_f}
 use Rattle.fx_base.proofs.Sums.{ticks_le, ticks_whole}
+use Rattle.fx_base.proofs.Rounding.{natural-mono}
 use Rattle.photo_table.specs.Kept.{IsKept, IsIntensity, table_of}
 use Rattle.photo_table.specs.Exact.{IsIntensityTable}
 use Rattle.photo_table.proofs.Lists.{count_is}
 
-natural_le : (a b : ℤ) → pos 0 ≤ℤ a → a ≤ℤ b → natural a ≤ natural b
-natural_le (pos m) (pos n) h g = omega (arith, ints)
-natural_le (pos m) (negsuc n) h g = absurd (omega (arith, ints))
-natural_le (negsuc m) b h g = absurd (omega (arith, ints))
-
 ends_of : (e : Ends) → IsIntensity e → InOrder (of_span e) × ((of_span e).hi ≤ᶠ whole 10000000)
 ends_of e h = (
-  ticks_le (natural e.lo) (natural e.hi) (natural_le e.lo e.hi h.not_negative h.in_order),
+  ticks_le (natural e.lo) (natural e.hi) (natural-mono e.lo e.hi h.not_negative h.in_order),
   le_trans_f (ticks_le (natural e.hi) (10000000 * 68719476736) h.high) (ticks_whole 10000000),
 )
 

@@ -7,6 +7,7 @@ use Rattle.fx_base.specs.Fraction.{Fraction, ◌≤ᶠ◌, ◌<ᶠ◌, ◌≈ᶠ
 use Rattle.fx_base.specs.Interval.{Interval}
 use Rattle.fx_base.specs.Units.{millionths}
 use Rattle.fx_base.proofs.Order.{le_refl_f, le_trans_f, le_of_lt_f, lt_or_le_f, le_lt_trans_f, eq_refl_f, eq_sym_f, eq_trans_f, at_most_true, at_most_not, le_of_eq_f, ge_of_eq_f, zero_le_f, add_le_f}
+use Rattle.fx_base.proofs.Truth.{both_of, if_false, if_true, not_first, not_second}
 use Rattle.photo_table.specs.Axis.{between, along}
 use Rattle.photo_table.specs.Table.{Table, IsTable, plane, gamma, last_gamma, value, planes_to, end_at}
 use Rattle.photo_table.proofs.Between.{IsOn, between_eq, between_moved, between_near, at_left, at_right, millionths_le}
@@ -98,24 +99,6 @@ within_planes t h i x low =
 
 -- ---- inside and outside the gammas
 
-if_true : (b : Bool) (u v : Fraction) → b ≡ true → (if b then u else v) ≡ u
-if_true true u v e = refl
-if_true false u v e = cc
-
-if_false : (b : Bool) (u v : Fraction) → b ≡ false → (if b then u else v) ≡ v
-if_false true u v e = cc
-if_false false u v e = refl
-
-both : (a b : Bool) → a ≡ true → b ≡ true → (a && b) ≡ true
-both a b e f = rw (e, f) refl
-
-not_first : (a b : Bool) → a ≡ false → (a && b) ≡ false
-not_first a b e = rw e refl
-
-not_second : (a b : Bool) → b ≡ false → (a && b) ≡ false
-not_second true b e = e
-not_second false b e = refl
-
 pub end_below : (end : Interval → Fraction) (t : Table) (x y : Fraction) → y <ᶠ millionths (gamma t 0) → end_at end t x y ≡ whole 0
 unfolding end_at
 end_below end t x y h = if_false _ _ _ (not_first (at_most (millionths (gamma t 0)) y) (at_most y (millionths (last_gamma t))) (at_most_not h))
@@ -127,7 +110,7 @@ end_above end t x y h = if_false _ _ _ (not_second (at_most (millionths (gamma t
 end_inside : (end : Interval → Fraction) (t : Table) (x y : Fraction) → millionths (gamma t 0) ≤ᶠ y → y ≤ᶠ millionths (last_gamma t)
     → end_at end t x y ≡ along (plane t) (planes_to t x) (λ i. along (gamma t) (length t.gammas) (λ j. end (value t i j)) y) x
 unfolding end_at
-end_inside end t x y low high = if_true _ _ _ (both (at_most (millionths (gamma t 0)) y) (at_most y (millionths (last_gamma t))) (at_most_true low) (at_most_true high))
+end_inside end t x y low high = if_true _ _ _ (both_of (at_most (millionths (gamma t 0)) y) (at_most y (millionths (last_gamma t))) (at_most_true low) (at_most_true high))
 
 -- ---- the law of pieces for a table
 

@@ -2,7 +2,7 @@
 use Rattle.std.specs.Prelude.{ℕ, ◌≡◌, ◌*◌, ◌<◌, ◌≤◌, Bool, not, List, [], All, length, count_by, slice_index_or}
 use Rattle.fx_base.specs.Ends.{Ends}
 use Rattle.fx_base.specs.Interval.{Meets, LiesIn}
-use Rattle.fx_base.specs.Units.{of_span}
+use Rattle.fx_base.specs.Units.{of_span, of_weight}
 use Rattle.fx_base.specs.declared.Weight.{Weight}
 use Rattle.room_layout.specs.Place.{Place}
 use Rattle.room_layout.specs.declared.geometry.Face.{Face}
@@ -12,7 +12,7 @@ use Rattle.patch_mesh.specs.Patches.{patches}
 use Rattle.patch_mesh.specs.TaskPoints.{task_points}
 use Rattle.patch_mesh.specs.declared.patch.Patch.{Patch}
 use Rattle.patch_mesh.specs.declared.patch.TaskPoint.{TaskPoint}
-use Rattle.form_factor.specs.Weights.{IsCoefficient, of_weight}
+use Rattle.form_factor.specs.Weights.{IsCoefficient}
 use Rattle.interval_system.specs.System.{System, IsSystem, IsDirectLight, IsRow, no_weight, no_light, weight_at, direct_at}
 use Rattle.scene_system.specs.Light.{is_clear, direct_light, loose_direct_light}
 use Rattle.scene_system.specs.Scene.{patch_count, patch_of, patch_place, patch_face, task_point_place, loose_coefficient_at}

@@ -11,7 +11,8 @@ use Rattle.symmetry_expand.specs.Fold.{is_measured, fold, AreEnds}
 use Rattle.symmetry_expand.specs.Steps.{first_of}
 use Rattle.symmetry_expand.proofs.Mirrors.{IsMoved, IsMirrored}
 use Rattle.symmetry_expand.proofs.Ways.{SameAcross}
-use Rattle.symmetry_expand.proofs.Folds.{Seen, num_later, seen_moved, seen_mirrored, moved_alike, mirrored_alike, turned_same, if_true, if_false}
+use Rattle.fx_base.proofs.Truth.{if_true, if_false}
+use Rattle.symmetry_expand.proofs.Folds.{Seen, num_later, seen_moved, seen_mirrored, moved_alike, mirrored_alike, turned_same}
 
 pub test : ℕ → ℕ → Fraction → Bool
 test first last c = (at_most (millionths first) c && at_most c (millionths last)) || at_most (c +ᶠ whole 360) (millionths last)

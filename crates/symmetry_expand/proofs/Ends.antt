@@ -5,6 +5,7 @@ use Rattle.std.proofs.lemmas.Bool.Decides.{Decides-int_eq}
 use Rattle.std.proofs.lemmas.Int.{ints}
 use Rattle.fx_base.specs.Units.{natural}
 use Rattle.fx_base.specs.declared.Micro.{Micro}
+use Rattle.fx_base.proofs.Truth.{both_true}
 use Rattle.symmetry_expand.specs.declared.symmetry.Symmetry.TheVariants.{Plane0, Plane90, Both}
 use Rattle.symmetry_expand.specs.Measured.{RiseWithinTurn, first_angle, last_angle, in_turn, lifted, no_angle, runs_as_needed}
 use Rattle.symmetry_expand.specs.Steps.{first_of, last_of, GoesRound}
@@ -14,10 +15,6 @@ use Rattle.symmetry_expand.proofs.Planes.{lifted_length, lifted_get, first_is}
 pub record RunsFrom (ps : List Micro) (a b : ℤ) : Type 0 where
   pub first : first_angle ps ≡ a
   pub last : last_angle ps ≡ b
-
-both_true : (a b : Bool) → (a && b) ≡ true → (a ≡ true) × (b ≡ true)
-both_true true b h = (refl, h)
-both_true false b h = cc
 
 runs_between : (ps : List Micro) (a b : ℤ) → (int_eq (first_angle ps) a && int_eq (last_angle ps) b) ≡ true → RunsFrom ps a b
 runs_between ps a b h =

@@ -4,6 +4,7 @@ use Rattle.fx_base.specs.Fraction.{Fraction, ◌≤ᶠ◌, ◌<ᶠ◌, ◌≈ᶠ
 use Rattle.fx_base.specs.Interval.{Interval}
 use Rattle.fx_base.specs.Units.{millionths}
 use Rattle.fx_base.proofs.Order.{eq_sym_f, eq_trans_f, lt_or_le_f, at_most_true, at_most_not}
+use Rattle.fx_base.proofs.Truth.{if_false, if_true}
 use Rattle.photo_table.specs.Angles.{turn_later}
 use Rattle.photo_table.specs.Table.{Table, IsTable, plane, end_at}
 use Rattle.photo_table.proofs.Tables.{end_moved}
@@ -14,14 +15,6 @@ use Rattle.symmetry_expand.proofs.Mirrors.{IsMoved, IsMirrored}
 use Rattle.symmetry_expand.proofs.Ways.{SameAcross}
 
 -- ---- the mirrors, by cases
-
-pub if_true : (b : Bool) (u v : Fraction) → b ≡ true → (if b then u else v) ≡ u
-if_true true u v e = refl
-if_true false u v e = cc
-
-pub if_false : (b : Bool) (u v : Fraction) → b ≡ false → (if b then u else v) ≡ v
-if_false true u v e = cc
-if_false false u v e = refl
 
 mirror_0_stays : (c : Fraction) → c ≤ᶠ whole 180 → mirror_0 c ≡ c
 unfolding mirror_0

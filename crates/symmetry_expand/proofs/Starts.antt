@@ -4,13 +4,11 @@ use Rattle.std.proofs.lemmas.Bool.{cases_lt}
 use Rattle.std.proofs.lemmas.Bool.Decides.{nat_tests}
 use Rattle.fx_base.specs.Search.{least}
 use Rattle.fx_base.proofs.SearchLaws.{least_passes, least_least, least_within}
+use Rattle.fx_base.proofs.Truth.{le_true}
 use Rattle.symmetry_expand.specs.Steps.{last_place, zigzag, start_of}
 
 le_is : (m n : ℕ) → nat_le m n ≡ true → m ≤ n
 le_is m n h = grind (arith, nat_tests)
-
-le_true : (m n : ℕ) → m ≤ n → nat_le m n ≡ true
-le_true m n h = grind (arith, nat_tests)
 
 pub start_early : (ps : List ℕ) (base : ℕ) → start_of ps base ≤ 2 * last_place ps
 unfolding start_of

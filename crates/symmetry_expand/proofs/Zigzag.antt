@@ -4,14 +4,9 @@ use Rattle.std.proofs.Math.Nat.{add-mul-div_left, add-mul-mod_self_left, mul-le-
 use Rattle.std.proofs.lemmas.Nat.{div-mul-add, mod-mul-add}
 use Rattle.std.proofs.lemmas.Bool.{cases_lt}
 use Rattle.std.proofs.lemmas.Bool.Decides.{nat_tests}
+use Rattle.fx_base.proofs.Truth.{le_false, le_true}
 use Rattle.symmetry_expand.specs.Steps.{last_place, last_of, there_and_back, zigzag, source}
 use Rattle.symmetry_expand.proofs.Planes.{RiseOnce, at_most_last, first_below_last, last_most}
-
-le_true : (m n : ℕ) → m ≤ n → nat_le m n ≡ true
-le_true m n h = grind (arith, nat_tests)
-
-le_false : (m n : ℕ) → n < m → nat_le m n ≡ false
-le_false m n h = grind (arith, nat_tests)
 
 -- on the way there
 pub zig_there : (ps : List ℕ) (q r : ℕ) → r ≤ last_place ps → 2 ≤ length ps → zigzag ps (q * (2 * last_place ps) + r) ≡ there_and_back ps * q + slice_index_or ps r 0
