@@ -1,11 +1,9 @@
+mod StandIn
+pub mod Seen
 pub mod Orders
 pub mod Rows
 pub mod MoreRows
 pub mod Heavy
-pub mod Apart
-pub mod Falls
-pub mod Lamps
 pub mod Lights
-pub mod TwoQuotients
 pub mod HiddenPairs
 pub mod RowLists

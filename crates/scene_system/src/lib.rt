@@ -8,8 +8,10 @@ mod fault;
 pub mod laws;
 mod light;
 mod limits;
+mod points;
 mod scene;
 mod sight;
+mod stand_in;
 mod weights;
 
 pub use assembly::assemble;
