@@ -11,8 +11,8 @@ use Rattle.fx_base.specs.Ends.{Ends}
 use Rattle.fx_base.specs.Units.{ticks, natural, of_span}
 use Rattle.fx_base.proofs.Order.{le_trans_f, add_le_f}
 use Rattle.fx_base.proofs.Sums.{ticks_split, ticks_join, no_ticks}
-use Rattle.room_layout.specs.Accepted.{IsLampIn}
-use Rattle.room_layout.specs.Place.{Place, place_of}
+use Rattle.room_layout.specs.Accepted.{IsLampIn, IsShine}
+use Rattle.room_layout.specs.Place.{Place, place_of, point_of}
 use Rattle.room_layout.specs.declared.geometry.Face.{Face}
 use Rattle.room_layout.specs.declared.geometry.Point.{Point}
 use Rattle.room_layout.specs.declared.geometry.Size.{Size}
@@ -26,8 +26,9 @@ use Rattle.scene_system.specs.Causes.{greatest_total, ticks_of, total_ticks}
 use Rattle.scene_system.specs.Light.{is_clear, lamp_light, light_of_first, light_of_points, loose_lamp_light, loose_light_of_first, loose_light_of_points, no_lamp}
 use Rattle.scene_system.specs.Parts.{IsDirectFor}
 use Rattle.scene_system.specs.Positions.{IsLampLight, IsShare, most_light}
-use Rattle.scene_system.specs.Tables.{AreTablesOf}
-use Rattle.scene_system.proofs.StandIn.{point_at}
+use Rattle.scene_system.specs.Tables.{AreKept, AreTablesOf}
+use Rattle.scene_system.proofs.Kept.{ticks_most}
+use Rattle.scene_system.proofs.StandIn.{point_at, point_count}
 
 -- ---- sums of spans
 
@@ -95,13 +96,28 @@ no_points photos room p face l s low high = record {
 }
 
 -- the share of the point of number k
-pub share_at : (photos : List Table) (room : Room) (p : Place) (face : Face) (l : Lamp) (points : List Point) (k : ℕ) (q : Point) (t : Ends)
-    → points ≡ lamp_points l → k < part_count l → q ≡ slice_index_or points k q → IsShare photos l (place_of q) p face (is_clear room (place_of q) p) t
+pub share_at : (photos : List Table) (room : Room) (p : Place) (face : Face) (l : Lamp) (points : List Point) (k : ℕ) (d : Point) (t : Ends)
+    → points ≡ lamp_points l → k < part_count l
+    → IsShare photos l (place_of (slice_index_or points k d)) p face (is_clear room (place_of (slice_index_or points k d)) p) t
     → IsShare photos l (lamp_place l k) p face (is_clear room (lamp_place l k) p) t
-share_at photos room p face l points k q t are inside is h =
+share_at photos room p face l points k d t are inside h =
     let P : Place → Type 0 = λ z. IsShare photos l z p face (is_clear room z p) t in
-    let e : q ≡ slice_index_or (lamp_points l) k q = is ∙ ap (λ (ps : List Point). slice_index_or ps k q) are in
-    subst P (ap (λ (z : Point). place_of z) (e ∙ point_at l k q inside)) h
+    let e : slice_index_or points k d ≡ point_of (lamp_place l k) = ap (λ (ps : List Point). slice_index_or ps k d) are ∙ point_at l k d inside in
+    subst P (ap (λ (z : Point). place_of z) e) h
+
+pub lamp_count : (l : Lamp) (points : List Point) → points ≡ lamp_points l → length points ≡ part_count l
+lamp_count l points are = ap length are ∙ point_count l
+
+pub lamp_bounds : (photos : List Table) (room : Room) (l : Lamp) → IsLampIn room.size (length room.files) l → length photos ≡ length room.files → AreKept photos
+    → (1 ≤ part_count l) × (most_light (ticks_of photos l) (part_count l) ≤ 2 ^ 82)
+lamp_bounds photos room l is count kept =
+    let parts = parts_of room.size (length room.files) l is in
+    let shine : IsShine (length photos) l.shine = rw count is.shine in
+    (parts.0, lamp_most (ticks_of photos l) (part_count l) (ticks_most photos l shine kept) (parts.1))
+
+pub light_most : (photos : List Table) (room : Room) (p : Place) (face : Face) (l : Lamp) (k : ℕ) (s : Ends) → IsLampIn room.size (length room.files) l → k < part_count l
+    → IsLightOfPoints photos room p face l k s → natural s.hi ≤ 2 ^ 100
+light_most photos room p face l k s is inside h = let parts = parts_of room.size (length room.files) l is in let fits = h.fits in omega (arith, fits, parts.1, inside)
 
 more_parts : (a b parts k m : ℕ) → a * parts ≤ k * m → b * parts ≤ m → (a + b) * parts ≤ suc k * m
 more_parts a b parts k m g h = omega (arith, g, h)
@@ -122,6 +138,9 @@ one_more_point photos room p face l s t r k j e some dim so_far is low high =
       fits = rw high (let h = so_far.fits in omega (arith, h, one, dim));
     })
 
+parts_cancel : (hi parts m : ℕ) → 1 ≤ parts → hi * parts ≤ parts * m → hi ≤ m
+parts_cancel hi parts m some h = le_of_mul-le-mul_left {k = parts} (omega (arith, h)) some
+
 pub all_points : (photos : List Table) (room : Room) (p : Place) (face : Face) (l : Lamp) (count : ℕ) (s : Ends) → count ≡ part_count l → 1 ≤ part_count l
     → IsLightOfPoints photos room p face l count s → IsLampLight photos room p face l s
 all_points photos room p face l count s e some h =
@@ -132,7 +151,7 @@ all_points photos room p face l count s e some h =
       meets = rw e at m;
       near = rw e at n;
       low = h.low;
-      most = le_of_mul-le-mul_left {k = part_count l} (omega (arith, most, e)) some;
+      most = parts_cancel (natural s.hi) (part_count l) (most_light (ticks_of photos l) (part_count l)) some (rw e at most);
     }
 
 -- ---- the lamps of a room

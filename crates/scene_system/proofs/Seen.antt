@@ -69,14 +69,14 @@ slant_low n x y =
     candidate_45 n (greatest test (45 * 2 ^ n)) (greatest_within test (45 * 2 ^ n))
 
 quarter_low : (n x y : ℕ) → (quarter_angle n x y).lo ≤ᶠ whole 90
-unfolding less_angle
+unfolding less_angle quarter_angle whole
 quarter_low n x y = elim (is_true_or_false (nat_le y x)) [
   | inl e ↦ rw (quarter_angle, e) (le_trans_f (slant_low n x y) (whole_le 45 90 (omega arith)))
   | inr e ↦ rw (quarter_angle, e) (sub_le_self_f (whole 90) (slant n y x).hi)
 ]
 
 gamma_low : (n : ℕ) (dx dy dz : ℤ) → (direction_gamma n dx dy dz).lo ≤ᶠ whole 180
-unfolding less_angle
+unfolding less_angle direction_gamma whole
 gamma_low n dx dy dz = elim (is_true_or_false (is_positive dz)) [
   | inl e ↦ rw (direction_gamma, e) (sub_le_self_f (whole 180) (quarter_angle n (square dz) (square dx + square dy)).hi)
   | inr e ↦ rw (direction_gamma, e) (le_trans_f (quarter_low n (square dz) (square dx + square dy)) (whole_le 90 180 (omega arith)))
