@@ -1,5 +1,6 @@
 -- The intensity of an exact table in the direction of a place in front of which a lamp's point lies is in order.
 use Rattle.std.proofs.Common.{ℕ, zero, suc, ◌+◌, ◌-◌, ◌*◌, ◌%◌, ◌^◌, ◌<◌, ◌≤◌, ◌≡◌, ℤ, pos, ◌-ℤ◌, Bool, true, false, if◌then◌else◌, nat_le, length, arith, refl, inl, inr}
+use Rattle.std.specs.Prelude.{unsigned_abs}
 use Rattle.std.proofs.lemmas.Int.{ints}
 use Rattle.std.proofs.Math.Nat.{mul-pos}
 use Rattle.fx_base.specs.Fraction.{Fraction, ◌≤ᶠ◌, ◌+ᶠ◌, ◌-ᶠ◌, half_power, lesser, whole}
@@ -48,8 +49,11 @@ hull_order t c g is exact oc og =
 
 -- ---- a lamp's point in front of a plane isn't at the place itself
 
+size_some : (a b : ℕ) → a < b → (0 < unsigned_abs (pos a -ℤ pos b)) × (0 < unsigned_abs (pos b -ℤ pos a))
+size_some a b h = (grind (arith, ints), grind (arith, ints))
+
 square_some : (a b : ℕ) → a < b → (0 < square (pos a -ℤ pos b)) × (0 < square (pos b -ℤ pos a))
-square_some a b h = ?
+square_some a b h = let s = size_some a b h in (mul-pos (s.0) (s.0), mul-pos (s.1) (s.1))
 
 apart : (face : Face) (q p : Place) → 0 < in_front face p q → 0 < square (step_from q p).x + square (step_from q p).y + square (step_from q p).z
 unfolding in_front step_from
