@@ -1,3 +1,5 @@
 pub mod Falls
 pub mod PointLists
 pub mod Quotients
+pub mod Shown
+pub mod Steps

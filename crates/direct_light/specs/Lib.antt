@@ -1,3 +1,4 @@
 pub mod Lamps
 pub mod Directions
 pub mod Shares
+pub mod Ways

@@ -4,5 +4,7 @@
 
 mod points;
 mod share;
+mod step;
+mod way;
 
 pub use points::lamp_points;
