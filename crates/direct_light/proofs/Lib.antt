@@ -1,5 +1,6 @@
 pub mod Falls
 pub mod PointLists
 pub mod Quotients
+pub mod Seen
 pub mod Shown
 pub mod Steps

@@ -53,15 +53,15 @@ share_lit n i l q p face clear w way =
     let front : nat_lt 0 (in_front face p q) ≡ true = grind (arith, nat_tests) in
     rw (way.seen, front, way.ahead, way.squared) refl
 
-pub lit_meets : (n : ℕ) (i s : Interval) (l : Lamp) (q p : Place) (face : Face) (clear : Bool) (w : Way) → IsWay q p face clear w
-    → Meets s (fallen n l.maintenance (part_count l) w.ahead w.squared i) → Meets s (share_of n i l q p face clear)
-lit_meets n i s l q p face clear w way h =
-    let P : Interval → Type 0 = λ j. Meets s j in subst P (sym (share_lit n i l q p face clear w way)) h
+pub lit_meets : (n : ℕ) (i s : Interval) (l : Lamp) (q p : Place) (face : Face) (clear : Bool) (w : Way) (parts : ℕ) → IsWay q p face clear w → parts ≡ part_count l
+    → Meets s (fallen n l.maintenance parts w.ahead w.squared i) → Meets s (share_of n i l q p face clear)
+lit_meets n i s l q p face clear w parts way e h =
+    let P : Interval → Type 0 = λ j. Meets s j in subst P (sym (share_lit n i l q p face clear w way)) (rw e at h)
 
-pub lit_near : (n : ℕ) (i s : Interval) (l : Lamp) (q p : Place) (face : Face) (clear : Bool) (w : Way) → IsWay q p face clear w
-    → LiesIn s (loosened (fallen n l.maintenance (part_count l) w.ahead w.squared i)) → LiesIn s (loosened (share_of n i l q p face clear))
-lit_near n i s l q p face clear w way h =
-    let P : Interval → Type 0 = λ j. LiesIn s (loosened j) in subst P (sym (share_lit n i l q p face clear w way)) h
+pub lit_near : (n : ℕ) (i s : Interval) (l : Lamp) (q p : Place) (face : Face) (clear : Bool) (w : Way) (parts : ℕ) → IsWay q p face clear w → parts ≡ part_count l
+    → LiesIn s (loosened (fallen n l.maintenance parts w.ahead w.squared i)) → LiesIn s (loosened (share_of n i l q p face clear))
+lit_near n i s l q p face clear w parts way e h =
+    let P : Interval → Type 0 = λ j. LiesIn s (loosened j) in subst P (sym (share_lit n i l q p face clear w way)) (rw e at h)
 
 -- ---- no share
 

@@ -2,9 +2,11 @@
 //! and how the plane lies.
 #![tactic(auto)]
 
+mod light;
 mod points;
 mod share;
 mod step;
 mod way;
 
+pub use light::even_light;
 pub use points::lamp_points;
