@@ -1,10 +1,10 @@
 -- The hull that the program takes of a table against the intensity of the exact table at every depth.
 use Rattle.std.proofs.Common.{ℕ, ◌+◌, ◌*◌, ◌-◌, ◌<◌, ◌≤◌, ◌≡◌, inl, inr, arith, ℤ, pos, negsuc, ◌+ℤ◌, ◌≤ℤ◌, ◌<ℤ◌}
 use Rattle.std.proofs.lemmas.Int.{ints}
-use Rattle.fx_base.specs.Fraction.{Fraction, ◌≤ᶠ◌, ◌+ᶠ◌, ◌-ᶠ◌, whole, ratio, half_power}
-use Rattle.fx_base.specs.Interval.{Interval, InOrder, Meets, LiesIn, MeetsOnCircle, turned, outward}
+use Rattle.fx_base.specs.Fraction.{◌≤ᶠ◌, ◌+ᶠ◌, whole, ratio, half_power}
+use Rattle.fx_base.specs.Interval.{Interval, InOrder, Meets, LiesIn, MeetsOnCircle, outward}
 use Rattle.fx_base.specs.Ends.{Ends}
-use Rattle.fx_base.specs.Units.{ticks, millionths, natural, of_span, of_bracket, micros_between}
+use Rattle.fx_base.specs.Units.{ticks, millionths, natural, of_span, of_bracket}
 use Rattle.fx_base.specs.declared.micro.Bracket.{Bracket}
 use Rattle.fx_base.proofs.Order.{le_refl_f, le_trans_f, add_le_f, add_zero_f, le_add_f, add_right_f, sub_le_f, sub_back_f}
 use Rattle.room_layout.specs.Place.{Place, squared_distance}
@@ -147,3 +147,20 @@ seen_near p t l q r c g s is stands a rounds n =
     (hulls_near p t is stands bracket_width m.turns m.others (of_bracket c) (of_bracket g) (c_towards n l q r) (gamma_towards n q r)
     (bracket_order c a.c_is) (bracket_order g a.g_is) width_small (bracket_narrow c a.c_is) (bracket_narrow g a.g_is)
     (half_turn (natural g.hi.0) (natural_most g.hi.0 180000000 a.g_within)) m.meet (a.g_meets n))
+
+pub angles_are : (l : Lamp) (q r : Place) (x y z : ℤ) (c g : Bracket) → x ≡ (step_from q r).x → y ≡ (step_from q r).y → z ≡ (step_from q r).z
+    → 0 < squared_distance r q → IsBracket c → IsBracket g → g.hi.0 ≤ℤ pos 180000000 → ((n : ℕ) → MeetsOnCircle (of_bracket c) (direction_c n x y l.turn))
+    → ((n : ℕ) → Meets (of_bracket g) (direction_gamma n x y z)) → AreAngles l q r c g
+angles_are l q r x y z c g ex ey ez apart c_is g_is within c_meets g_meets = record {
+  apart = apart;
+  c_is = c_is;
+  g_is = g_is;
+  g_within = within;
+  c_meets = λ n. rw (ex, ey) at (c_meets n);
+  g_meets = λ n. rw (ex, ey, ez) at (g_meets n);
+}
+
+-- ---- how great the light is
+
+pub most_of_table : (light part parts m : ℕ) → part ≤ m + 1 → light * parts ≤ part * 4000000 + 2 * parts → light * parts ≤ (m + 1) * 4000000 + 2 * parts
+most_of_table light part parts m g h = omega (arith, g, h)

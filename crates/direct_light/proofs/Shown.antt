@@ -1,11 +1,10 @@
 -- A share where the plane has light of the point, and where it has none.
-use Rattle.std.proofs.Common.{ℕ, zero, suc, ◌+◌, ◌*◌, ◌<◌, ◌≤◌, ◌≡◌, refl, sym, subst, arith, inl, inr, Bool, true, false, nat_lt, ℤ, pos, ◌≤ℤ◌}
-use Rattle.std.proofs.lemmas.Int.{ints}
+use Rattle.std.proofs.Common.{ℕ, zero, suc, ◌*◌, ◌<◌, ◌≤◌, ◌≡◌, refl, sym, subst, arith, inl, inr, Bool, true, false, nat_lt, pos}
 use Rattle.std.proofs.lemmas.Bool.Decides.{nat_tests}
 use Rattle.fx_base.specs.Fraction.{Fraction, ◌≤ᶠ◌, ◌+ᶠ◌, ◌*ᶠ◌, whole, ratio, half_power}
 use Rattle.fx_base.specs.Interval.{Interval, Meets, LiesIn, exact, outward}
 use Rattle.fx_base.specs.Ends.{Ends}
-use Rattle.fx_base.specs.Units.{ticks, natural, of_span, ticks_between}
+use Rattle.fx_base.specs.Units.{ticks, of_span}
 use Rattle.fx_base.proofs.Order.{le_trans_f, zero_le_f, sub_le_f, sub_le_self_f, le_add_f}
 use Rattle.fx_base.proofs.Sums.{no_ticks, ticks_whole, whole_ticks}
 use Rattle.room_layout.specs.Place.{Place, in_front, squared_distance}

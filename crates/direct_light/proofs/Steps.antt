@@ -1,6 +1,9 @@
 -- Steps between places, by their coordinates.
-use Rattle.std.proofs.Common.{ℕ, zero, suc, ◌+◌, ◌-◌, ◌*◌, ◌<◌, ◌≤◌, ◌≡◌, refl, arith, ap, ℤ, pos, negsuc, ◌-ℤ◌, ◌≤ℤ◌, unsigned_abs, nat_abs}
+use Rattle.std.proofs.Common.{ℕ, zero, suc, ◌+◌, ◌*◌, ◌<◌, ◌≤◌, ◌≡◌, refl, ◌∙◌, arith, ℤ, pos, negsuc, ◌-ℤ◌, ◌≤ℤ◌, unsigned_abs, nat_abs}
 use Rattle.std.proofs.lemmas.Int.{ints}
+use mir.Syntax.{w32}
+use mir.Val.{SFits, of_z, to_z}
+use Rattle.std.proofs.lemmas.Int.{to_z-of_z}
 use Rattle.room_layout.specs.Place.{Place, apart, squared_distance}
 use Rattle.angle_bracket.specs.Direction.{square}
 use Rattle.direct_light.specs.Directions.{step_from}
@@ -51,3 +54,11 @@ some_length zero zero (suc c) h = omega arith
 pub some_step : (q p : Place) → 0 < squared_distance p q
     → 0 < unsigned_abs (step_from q p).x + unsigned_abs (step_from q p).y + unsigned_abs (step_from q p).z
 some_step q p h = some_length (unsigned_abs (step_from q p).x) (unsigned_abs (step_from q p).y) (unsigned_abs (step_from q p).z) (somewhere q p h)
+
+pub some_step_at : (q p : Place) (x y z : ℤ) → x ≡ (step_from q p).x → y ≡ (step_from q p).y → z ≡ (step_from q p).z → 0 < squared_distance p q
+    → 0 < unsigned_abs x + unsigned_abs y + unsigned_abs z
+some_step_at q p x y z ex ey ez h = rw (ex, ey, ez) (some_step q p h)
+
+-- what a call has made of a coordinate that was passed as 32 bits
+pub passed : (z y : ℤ) → SFits w32 z → z ≡ y → to_z w32 (of_z w32 z) ≡ y
+passed z y f e = to_z-of_z w32 z f ∙ e

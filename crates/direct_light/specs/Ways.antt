@@ -1,5 +1,5 @@
 -- How the light of a lamp's point goes to a plane.
-use Rattle.std.specs.Prelude.{ℕ, ◌<◌, ◌≤◌, ◌≡◌, ◌⊎◌, Bool, true, false}
+use Rattle.std.specs.Prelude.{◌<◌, ◌≤◌, ◌≡◌, ◌⊎◌, Bool, true, false}
 use Rattle.room_layout.specs.Place.{Place, in_front, squared_distance}
 use Rattle.room_layout.specs.declared.geometry.Face.{Face}
 use Rattle.direct_light.specs.declared.way.Way.{Way}

@@ -8,5 +8,5 @@ mod share;
 mod step;
 mod way;
 
-pub use light::even_light;
+pub use light::{direct, even_light};
 pub use points::lamp_points;

@@ -1,4 +1,4 @@
-use Rattle.std.proofs.Common.{◌+◌, ◌*◌, ◌≤◌, ap, arith}
+use Rattle.std.proofs.Common.{ap}
 use Rattle.fx_base.specs.Units.{natural}
 use Rattle.direct_light.proofs.Falls.{made_meets, made_near, made_most}
 use Rattle.direct_light.proofs.Quotients.{light_made, light_fits}
