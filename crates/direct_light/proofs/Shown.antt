@@ -18,7 +18,7 @@ use Rattle.direct_light.specs.declared.way.Way.{Way}
 
 -- ---- the way
 
-at_most_square : (a r : ℕ) → a * a ≤ r → a ≤ r
+pub at_most_square : (a r : ℕ) → a * a ≤ r → a ≤ r
 at_most_square zero r h = omega arith
 at_most_square (suc a) r h = omega (arith, h)
 

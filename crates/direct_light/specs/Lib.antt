@@ -2,3 +2,4 @@ pub mod Lamps
 pub mod Directions
 pub mod Shares
 pub mod Ways
+pub mod Laws

@@ -2,6 +2,7 @@
 //! and how the plane lies.
 #![tactic(auto)]
 
+pub mod laws;
 mod light;
 mod points;
 mod share;
