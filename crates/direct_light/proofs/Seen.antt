@@ -17,6 +17,8 @@ use Rattle.photo_table.specs.Laws.{StandsFor, MeetTurned, loose_c, loose_gamma}
 use Rattle.photo_table.specs.Table.{Table, IsTable}
 use Rattle.photo_table.proofs.HullLaws.{hulls_meet, hulls_near}
 use Rattle.direct_light.specs.Directions.{step_from, c_towards, gamma_towards, seen, loose_seen, bracket_width}
+use Rattle.direct_light.specs.Ways.{IsNarrowBracket, AreAngles}
+use Rattle.direct_light.specs.declared.angles.Angles.{Angles}
 use Rattle.direct_light.proofs.Steps.{somewhere}
 
 -- ---- brackets of whole millionths
@@ -43,21 +45,15 @@ natural_narrow (pos a) (pos b) m g h = omega (arith, ints)
 natural_narrow (pos a) (negsuc b) m g h = omega arith
 natural_narrow (negsuc a) b m g h = absurd (omega (arith, ints))
 
--- a bracket of angles as the program has it: in order, and at most 1/4000 degree wide
-pub record IsBracket (b : Bracket) : Type 0 where
-  pub natural : pos 0 ≤ℤ b.lo.0
-  pub in_order : b.lo.0 ≤ℤ b.hi.0
-  pub narrow : b.hi.0 ≤ℤ (b.lo.0 +ℤ pos 250)
-
-bracket_order : (b : Bracket) → IsBracket b → InOrder (of_bracket b)
-bracket_order b h = millionths_le (natural b.lo.0) (natural b.hi.0) (natural_le b.lo.0 b.hi.0 h.natural h.in_order)
+bracket_order : (b : Bracket) → IsNarrowBracket b → InOrder (of_bracket b)
+bracket_order b h = millionths_le (natural b.lo.0) (natural b.hi.0) (natural_le b.lo.0 b.hi.0 h.not_negative h.in_order)
 
 width : (a b : ℕ) → b ≤ a + 250 → millionths b ≤ᶠ (millionths a +ᶠ bracket_width)
 unfolding millionths ratio ◌+ᶠ◌
 width a b h = record { cross = omega arith }
 
-bracket_narrow : (b : Bracket) → IsBracket b → (of_bracket b).hi ≤ᶠ ((of_bracket b).lo +ᶠ bracket_width)
-bracket_narrow b h = width (natural b.lo.0) (natural b.hi.0) (natural_narrow b.lo.0 b.hi.0 250 h.natural h.narrow)
+bracket_narrow : (b : Bracket) → IsNarrowBracket b → (of_bracket b).hi ≤ᶠ ((of_bracket b).lo +ᶠ bracket_width)
+bracket_narrow b h = width (natural b.lo.0) (natural b.hi.0) h.narrow
 
 half_turn : (m : ℕ) → m ≤ 180000000 → millionths m ≤ᶠ whole 180
 unfolding millionths whole
@@ -120,45 +116,43 @@ rounded_near i j s r h = record {
       (le_trans_f (add_right_f j.hi (ticks 1) (ticks 1)) (add_le_f (le_refl_f j.hi) two_ticks_small)));
 }
 
--- ---- what the program knows of the angles from q to r
+-- ---- at the angles of the program
 
-pub record AreAngles (l : Lamp) (q r : Place) (c g : Bracket) : Type 0 where
-  pub apart : 0 < squared_distance r q
-  pub c_is : IsBracket c
-  pub g_is : IsBracket g
-  pub g_within : g.hi.0 ≤ℤ pos 180000000
-  pub c_meets : (n : ℕ) → MeetsOnCircle (of_bracket c) (c_towards n l q r)
-  pub g_meets : (n : ℕ) → Meets (of_bracket g) (gamma_towards n q r)
+pub seen_meets : (p t : Table) (l : Lamp) (q r : Place) (a : Angles) (s : Ends) → IsTable p → StandsFor p t → 0 < squared_distance r q → AreAngles l q r a
+    → Rounds (hull p (of_bracket a.c) (of_bracket a.gamma)).lo (hull p (of_bracket a.c) (of_bracket a.gamma)).hi (natural s.lo) (natural s.hi)
+    → (n : ℕ) → Meets (of_span s) (seen n t l q r)
+seen_meets p t l q r a s is stands apart h rounds n =
+    let m = circle_meets (of_bracket a.c) (c_towards n l q r) (h.c_meets n) in
+    rounded_meets (hull p (of_bracket a.c) (of_bracket a.gamma)) (seen n t l q r) s rounds
+    (hulls_meet p t is stands m.turns m.others (of_bracket a.c) (of_bracket a.gamma) (c_towards n l q r) (gamma_towards n q r)
+    (bracket_order a.c h.c_narrow) (bracket_order a.gamma h.gamma_narrow) (c_in_order n (step_from q r).x (step_from q r).y l.turn)
+    (gamma_in_order n (step_from q r).x (step_from q r).y (step_from q r).z (somewhere q r apart)) m.meet (h.gamma_meets n))
 
-pub seen_meets : (p t : Table) (l : Lamp) (q r : Place) (c g : Bracket) (s : Ends) → IsTable p → StandsFor p t → AreAngles l q r c g
-    → Rounds (hull p (of_bracket c) (of_bracket g)).lo (hull p (of_bracket c) (of_bracket g)).hi (natural s.lo) (natural s.hi) → (n : ℕ) → Meets (of_span s) (seen n t l q r)
-seen_meets p t l q r c g s is stands a rounds n =
-    let m = circle_meets (of_bracket c) (c_towards n l q r) (a.c_meets n) in
-    rounded_meets (hull p (of_bracket c) (of_bracket g)) (seen n t l q r) s rounds
-    (hulls_meet p t is stands m.turns m.others (of_bracket c) (of_bracket g) (c_towards n l q r) (gamma_towards n q r)
-    (bracket_order c a.c_is) (bracket_order g a.g_is) (c_in_order n (step_from q r).x (step_from q r).y l.turn)
-    (gamma_in_order n (step_from q r).x (step_from q r).y (step_from q r).z (somewhere q r a.apart)) m.meet (a.g_meets n))
+pub seen_near : (p t : Table) (l : Lamp) (q r : Place) (a : Angles) (s : Ends) → IsTable p → StandsFor p t → AreAngles l q r a
+    → Rounds (hull p (of_bracket a.c) (of_bracket a.gamma)).lo (hull p (of_bracket a.c) (of_bracket a.gamma)).hi (natural s.lo) (natural s.hi)
+    → (n : ℕ) → LiesIn (of_span s) (loose_seen n t l q r)
+seen_near p t l q r a s is stands h rounds n =
+    let m = circle_meets (of_bracket a.c) (c_towards n l q r) (h.c_meets n) in
+    rounded_near (hull p (of_bracket a.c) (of_bracket a.gamma)) (hull t (loose_c bracket_width (c_towards n l q r)) (loose_gamma bracket_width (gamma_towards n q r))) s rounds
+    (hulls_near p t is stands bracket_width m.turns m.others (of_bracket a.c) (of_bracket a.gamma) (c_towards n l q r) (gamma_towards n q r)
+    (bracket_order a.c h.c_narrow) (bracket_order a.gamma h.gamma_narrow) width_small (bracket_narrow a.c h.c_narrow) (bracket_narrow a.gamma h.gamma_narrow)
+    (half_turn (natural a.gamma.hi.0) h.gamma_within) m.meet (h.gamma_meets n))
 
-pub seen_near : (p t : Table) (l : Lamp) (q r : Place) (c g : Bracket) (s : Ends) → IsTable p → StandsFor p t → AreAngles l q r c g
-    → Rounds (hull p (of_bracket c) (of_bracket g)).lo (hull p (of_bracket c) (of_bracket g)).hi (natural s.lo) (natural s.hi) → (n : ℕ) → LiesIn (of_span s) (loose_seen n t l q r)
-seen_near p t l q r c g s is stands a rounds n =
-    let m = circle_meets (of_bracket c) (c_towards n l q r) (a.c_meets n) in
-    rounded_near (hull p (of_bracket c) (of_bracket g)) (hull t (loose_c bracket_width (c_towards n l q r)) (loose_gamma bracket_width (gamma_towards n q r))) s rounds
-    (hulls_near p t is stands bracket_width m.turns m.others (of_bracket c) (of_bracket g) (c_towards n l q r) (gamma_towards n q r)
-    (bracket_order c a.c_is) (bracket_order g a.g_is) width_small (bracket_narrow c a.c_is) (bracket_narrow g a.g_is)
-    (half_turn (natural g.hi.0) (natural_most g.hi.0 180000000 a.g_within)) m.meet (a.g_meets n))
-
-pub angles_are : (l : Lamp) (q r : Place) (x y z : ℤ) (c g : Bracket) → x ≡ (step_from q r).x → y ≡ (step_from q r).y → z ≡ (step_from q r).z
-    → 0 < squared_distance r q → IsBracket c → IsBracket g → g.hi.0 ≤ℤ pos 180000000 → ((n : ℕ) → MeetsOnCircle (of_bracket c) (direction_c n x y l.turn))
-    → ((n : ℕ) → Meets (of_bracket g) (direction_gamma n x y z)) → AreAngles l q r c g
-angles_are l q r x y z c g ex ey ez apart c_is g_is within c_meets g_meets = record {
-  apart = apart;
-  c_is = c_is;
-  g_is = g_is;
-  g_within = within;
+-- what the calls of the two angles say, for the coordinates x, y and z of the step
+pub angles_are : (l : Lamp) (q r : Place) (x y z : ℤ) (a : Angles) → x ≡ (step_from q r).x → y ≡ (step_from q r).y → z ≡ (step_from q r).z
+    → ((n : ℕ) → MeetsOnCircle (of_bracket a.c) (direction_c n x y l.turn)) → ((n : ℕ) → Meets (of_bracket a.gamma) (direction_gamma n x y z))
+    → IsNarrowBracket a.c → IsNarrowBracket a.gamma → a.c.lo.0 <ℤ pos 360000000 → a.gamma.hi.0 ≤ℤ pos 180000000 → AreAngles l q r a
+angles_are l q r x y z a ex ey ez c_meets gamma_meets c_narrow gamma_narrow below within = record {
   c_meets = λ n. rw (ex, ey) at (c_meets n);
-  g_meets = λ n. rw (ex, ey, ez) at (g_meets n);
+  c_narrow = c_narrow;
+  c_below = natural_below a.c.lo.0 360000000 (omega arith) below;
+  gamma_meets = λ n. rw (ex, ey, ez) at (gamma_meets n);
+  gamma_narrow = gamma_narrow;
+  gamma_within = natural_most a.gamma.hi.0 180000000 within;
 }
+
+pub narrow_bracket : (b : Bracket) → pos 0 ≤ℤ b.lo.0 → b.lo.0 ≤ℤ b.hi.0 → b.hi.0 ≤ℤ (b.lo.0 +ℤ pos 250) → IsNarrowBracket b
+narrow_bracket b g h i = record { not_negative = g; in_order = h; narrow = natural_narrow b.lo.0 b.hi.0 250 g i }
 
 -- ---- how great the light is
 

@@ -2,6 +2,7 @@
 //! and how the plane lies.
 #![tactic(auto)]
 
+mod angles;
 pub mod laws;
 mod light;
 mod points;

@@ -12,10 +12,9 @@ ghost use Rattle.direct_light.specs.Directions.{loose_seen, seen};
 ghost use Rattle.direct_light.specs.Lamps.{IsLamp, part_count};
 ghost use Rattle.direct_light.specs.Shares.{loosened, share_of};
 
+use crate::angles::angles_towards;
 use crate::share::share;
-use crate::step::step_from;
 use crate::way::way_to;
-use angle_bracket::{gamma, turn_angle};
 use fx_base::Span;
 use photo_table::PhotoTable;
 use room_layout::{Face, Lamp, Point};
@@ -88,10 +87,8 @@ pub fn direct(
     match way_to(from, at, face, clear) {
         None => Span::whole(0),
         Some(way) => {
-            let step = step_from(from, at);
-            let c = turn_angle(table, step.x, step.y, lamp.turn);
-            let g = gamma(table, step.x, step.y, step.z);
-            let intensity = photo.hull(c, g);
+            let angles = angles_towards(table, lamp, from, at);
+            let intensity = photo.hull(angles.c, angles.gamma);
             share(
                 intensity,
                 lamp.maintenance,
