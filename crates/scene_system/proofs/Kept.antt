@@ -1,5 +1,5 @@
 -- Tables that the program keeps, and the exact ones that they are rounded from.
-use Rattle.std.proofs.Common.{ℕ, zero, suc, ◌+◌, ◌*◌, ◌<◌, ◌≤◌, ◌≡◌, List, [], ◌∷◌, ◌++◌, All, length, map, take, max, sum_by, arith, refl, sym, ap, ◌∙◌, subst, inl, inr}
+use Rattle.std.proofs.Common.{ℕ, zero, suc, ◌+◌, ◌*◌, ◌<◌, ◌≤◌, ◌≡◌, List, [], ◌∷◌, ◌++◌, All, length, map, take, sum_by, arith, refl, sym, ap, ◌∙◌, subst, inl, inr}
 use Rattle.std.specs.Prelude.{slice_index_or}
 use Rattle.std.specs.Int.{div_ceil}
 use Rattle.std.proofs.lemmas.Bool.{cases_lt}
@@ -7,17 +7,17 @@ use Rattle.std.proofs.lemmas.Grind.{div_ceil_times}
 use Rattle.std.proofs.lemmas.List.{map_more}
 use Rattle.std.proofs.lemmas.List.Elements.{All-get_or, All-more, All-push}
 use Rattle.std.proofs.lemmas.List.Sums.{sum_by-cons}
-use Rattle.std.proofs.Math.Nat.{le_of_mul-le-mul_left, mul-le-mul_left}
+use Rattle.std.proofs.Math.Nat.{mul-le-mul_left}
 use Rattle.fx_base.specs.Fraction.{Fraction, ◌≤ᶠ◌, whole}
 use Rattle.fx_base.specs.Interval.{Interval, exact}
 use Rattle.fx_base.specs.Units.{ticks}
 use Rattle.fx_base.proofs.Sums.{ticks_above_back}
-use Rattle.room_layout.specs.Accepted.{IsAccepted, IsShine}
+use Rattle.room_layout.specs.Accepted.{IsShine}
 use Rattle.room_layout.specs.declared.room.Lamp.{Lamp}
 use Rattle.room_layout.specs.declared.room.Room.{Room}
 use Rattle.room_layout.specs.declared.room.Shine.{Shine}
 use Rattle.room_layout.specs.declared.room.Shine.TheVariants.{Even, File}
-use Rattle.photo_table.specs.Exact.{IsIntensityTable, IsRoundedOf, rounded, ticks_above}
+use Rattle.photo_table.specs.Exact.{IsIntensityTable, rounded, ticks_above}
 use Rattle.photo_table.specs.Kept.{IsGreatest}
 use Rattle.photo_table.specs.Table.{Table, upper}
 use Rattle.photo_table.proofs.Exactly.{rounded_stands}

@@ -1,5 +1,3 @@
-mod StandIn
-pub mod Seen
 pub mod Kept
 pub mod Shares
 pub mod Orders

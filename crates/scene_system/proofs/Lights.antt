@@ -1,5 +1,5 @@
 -- The light of several points, and of several lamps, one after the other.
-use Rattle.std.proofs.Common.{ℕ, suc, ◌+◌, ◌*◌, ◌^◌, ◌<◌, ◌≤◌, ◌≡◌, ℤ, pos, negsuc, ◌≤ℤ◌, List, length, take, sum_by, arith, refl, sym, ap, ◌∙◌, subst}
+use Rattle.std.proofs.Common.{ℕ, suc, ◌+◌, ◌*◌, ◌^◌, ◌<◌, ◌≤◌, ◌≡◌, ℤ, pos, negsuc, ◌≤ℤ◌, List, length, take, sum_by, arith, ap, ◌∙◌, subst}
 use Rattle.std.proofs.lemmas.Int.{ints}
 use Rattle.std.proofs.Math.Nat.{mul-le-mul, le_of_mul-le-mul_left}
 use Rattle.std.proofs.lemmas.List.{take_all}
@@ -8,7 +8,7 @@ use Rattle.std.specs.Prelude.{slice_index_or}
 use Rattle.fx_base.specs.Fraction.{sum_to}
 use Rattle.fx_base.specs.Interval.{Interval, Meets, LiesIn, sum_of}
 use Rattle.fx_base.specs.Ends.{Ends}
-use Rattle.fx_base.specs.Units.{ticks, natural, of_span}
+use Rattle.fx_base.specs.Units.{natural, of_span}
 use Rattle.fx_base.proofs.Order.{le_trans_f, add_le_f}
 use Rattle.fx_base.proofs.Sums.{ticks_split, ticks_join, no_ticks}
 use Rattle.room_layout.specs.Accepted.{IsLampIn, IsShine}
@@ -28,7 +28,7 @@ use Rattle.scene_system.specs.Parts.{IsDirectFor}
 use Rattle.scene_system.specs.Positions.{IsLampLight, IsShare, most_light}
 use Rattle.scene_system.specs.Tables.{AreKept, AreTablesOf}
 use Rattle.scene_system.proofs.Kept.{ticks_most}
-use Rattle.scene_system.proofs.StandIn.{point_at, point_count}
+use Rattle.direct_light.proofs.PointLists.{lamp_point_at, length-lamp_points}
 
 -- ---- sums of spans
 
@@ -102,11 +102,11 @@ pub share_at : (photos : List Table) (room : Room) (p : Place) (face : Face) (l 
     → IsShare photos l (lamp_place l k) p face (is_clear room (lamp_place l k) p) t
 share_at photos room p face l points k d t are inside h =
     let P : Place → Type 0 = λ z. IsShare photos l z p face (is_clear room z p) t in
-    let e : slice_index_or points k d ≡ point_of (lamp_place l k) = ap (λ (ps : List Point). slice_index_or ps k d) are ∙ point_at l k d inside in
+    let e : slice_index_or points k d ≡ point_of (lamp_place l k) = ap (λ (ps : List Point). slice_index_or ps k d) are ∙ lamp_point_at l k d inside in
     subst P (ap (λ (z : Point). place_of z) e) h
 
 pub lamp_count : (l : Lamp) (points : List Point) → points ≡ lamp_points l → length points ≡ part_count l
-lamp_count l points are = ap length are ∙ point_count l
+lamp_count l points are = ap length are ∙ length-lamp_points l
 
 pub lamp_bounds : (photos : List Table) (room : Room) (l : Lamp) → IsLampIn room.size (length room.files) l → length photos ≡ length room.files → AreKept photos
     → (1 ≤ part_count l) × (most_light (ticks_of photos l) (part_count l) ≤ 2 ^ 82)

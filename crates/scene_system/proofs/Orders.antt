@@ -1,75 +1,53 @@
 -- The enclosures of direct light and of coefficients aren't empty: each lower end is at most its upper end.
-use Rattle.std.proofs.Common.{ℕ, zero, suc, ◌<◌, ◌≤◌, ◌≡◌, Bool, true, false, ◌&&◌, nat_lt, List, length, arith, refl, inl, inr, sym, ◌∙◌, if◌then◌else◌}
+use Rattle.std.proofs.Common.{ℕ, ◌+◌, ◌*◌, ◌%◌, ◌<◌, ◌≡◌, Bool, List, length, refl}
 use Rattle.std.specs.Prelude.{slice_index_or}
-use Rattle.std.proofs.lemmas.Bool.{cases_lt}
-use Rattle.std.proofs.lemmas.Bool.Decides.{nat_tests}
 use Rattle.std.proofs.lemmas.List.Elements.{All-get_or}
-use Rattle.fx_base.specs.Fraction.{half_power, whole}
-use Rattle.fx_base.specs.Interval.{Interval, InOrder, exact, outward}
-use Rattle.fx_base.proofs.Order.{le_refl_f}
+use Rattle.fx_base.specs.Fraction.{half_power}
+use Rattle.fx_base.specs.Interval.{InOrder}
+use Rattle.fx_base.proofs.Order.{le_of_eq_f}
 use Rattle.fx_base.proofs.Sums.{sum_to_le}
 use Rattle.room_layout.specs.Accepted.{IsAccepted, IsLampIn, IsShine}
-use Rattle.room_layout.specs.Place.{Place, in_front}
+use Rattle.room_layout.specs.Place.{Place}
 use Rattle.room_layout.specs.declared.geometry.Face.{Face}
 use Rattle.room_layout.specs.declared.geometry.Face.TheVariants.{Up}
 use Rattle.room_layout.specs.declared.room.Lamp.{Lamp}
 use Rattle.room_layout.specs.declared.room.Room.{Room}
 use Rattle.room_layout.specs.declared.room.Shine.{Shine}
-use Rattle.room_layout.specs.declared.room.Shine.TheVariants.{Even, File}
-use Rattle.photo_table.specs.Table.{Table}
+use Rattle.room_layout.specs.declared.room.Shine.TheVariants.{File}
+use Rattle.photo_table.specs.Table.{Table, value}
 use Rattle.patch_mesh.specs.Bounds.{IsPatchIn, largest_room}
 use Rattle.patch_mesh.specs.Patches.{patches}
 use Rattle.patch_mesh.proofs.Fits.{patches_reach}
 use Rattle.form_factor.proofs.Coefficients.{nests}
-use Rattle.direct_light.specs.Directions.{loose_seen, seen}
 use Rattle.direct_light.specs.Lamps.{lamp_place, part_count}
-use Rattle.direct_light.specs.Shares.{fallen, intensity, loose_intensity, loose_share, loosened, share, share_of, table_at}
+use Rattle.direct_light.specs.Shares.{loose_share, share, table_at}
+use Rattle.direct_light.specs.Laws.{IsOrdered}
+use Rattle.direct_light.proofs.Ordered.{lamp_shares_in_order, outward_order}
 use Rattle.scene_system.specs.Laws.{RadiosityIsInOrder}
 use Rattle.scene_system.specs.Light.{is_clear, lamp_light, loose_lamp_light, light_of_points, loose_light_of_points, light_of_first, loose_light_of_first, direct_light, loose_direct_light, no_lamp}
 use Rattle.scene_system.specs.Scene.{patch_count, patch_of, patch_place, patch_face, no_patch, task_point_place, coefficient_at, loose_coefficient_at}
 use Rattle.scene_system.specs.Tables.{AreExactTables}
-use Rattle.scene_system.proofs.Seen.{loose_seen_order, outward_order, seen_order}
-use Rattle.scene_system.proofs.StandIn.{loosened_order, share_order}
 
 -- ---- shares
 
--- a point that isn't in front of the plane gives nothing
-share_behind : (n : ℕ) (i : Interval) (l : Lamp) (q p : Place) (face : Face) (clear : Bool) → in_front face p q ≡ 0 → share_of n i l q p face clear ≡ exact (whole 0)
-unfolding share_of
-share_behind n i l q p face true h = rw h refl
-share_behind n i l q p face false h = refl
-
--- so that its intensity has to be in order only where the point is in front
-front_order : (n : ℕ) (i : Interval) (l : Lamp) (q p : Place) (face : Face) (clear : Bool) → (0 < in_front face p q → InOrder i) → InOrder (share_of n i l q p face clear)
-front_order n i l q p face clear h = elim (cases_lt 0 (in_front face p q)) [
-  | inl some ↦ share_order n i l q p face clear (h some)
-  | inr none ↦ rw (share_behind n i l q p face clear (omega (arith, none))) (le_refl_f (whole 0))
-]
+-- an exact table has intensities in order
+ordered : (room : Room) (tables : List Table) (k : ℕ) → AreExactTables room tables → k < length tables → IsOrdered (table_at tables k)
+unfolding value
+ordered room tables k is inside =
+    let t = table_at tables k in
+    record { is_table = is.is_table k inside; values = λ i j. le_of_eq_f ((is.exact k inside).each (i % length t.planes * length t.gammas + j)) }
 
 -- the lamp's file, if it has one, has a table
-abbrev pub HasTable : List Table → Lamp → Type 0
+abbrev HasTable : List Table → Lamp → Type 0
 HasTable tables l = IsShine (length tables) l.shine
 
-intensity_order : (n : ℕ) (room : Room) (tables : List Table) (l : Lamp) (q p : Place) (face : Face) (s : Shine) → l.shine ≡ s → AreExactTables room tables
-    → IsShine (length tables) s → 0 < in_front face p q → InOrder (intensity n tables l q p)
-intensity_order n room tables l q p face (Even candela) e is has front = rw e (le_refl_f (whole candela))
-intensity_order n room tables l q p face (File k) e is has front = rw e (seen_order n (table_at tables k) l q p face (is.is_table k has) (is.exact k has) front)
+file_inside : (files k : ℕ) (s : Shine) → s ≡ File k → IsShine files s → k < files
+file_inside files k s e is = rw e at is
 
-loose_intensity_order : (n : ℕ) (room : Room) (tables : List Table) (l : Lamp) (q p : Place) (face : Face) (s : Shine) → l.shine ≡ s → AreExactTables room tables
-    → IsShine (length tables) s → 0 < in_front face p q → InOrder (loose_intensity n tables l q p)
-loose_intensity_order n room tables l q p face (Even candela) e is has front = rw e (outward_order (half_power 30) (exact (whole candela)) (le_refl_f (whole candela)))
-loose_intensity_order n room tables l q p face (File k) e is has front = rw e (loose_seen_order n (table_at tables k) l q p face (is.is_table k has) (is.exact k has) front)
-
-lamp_share_order : (n : ℕ) (room : Room) (tables : List Table) (l : Lamp) (q p : Place) (face : Face) (clear : Bool) → AreExactTables room tables → HasTable tables l
-    → InOrder (share n tables l q p face clear)
-lamp_share_order n room tables l q p face clear is has =
-    front_order n (intensity n tables l q p) l q p face clear (intensity_order n room tables l q p face l.shine refl is has)
-
-loose_share_order : (n : ℕ) (room : Room) (tables : List Table) (l : Lamp) (q p : Place) (face : Face) (clear : Bool) → AreExactTables room tables → HasTable tables l
-    → InOrder (loose_share n tables l q p face clear)
-loose_share_order n room tables l q p face clear is has =
-    loosened_order (share_of n (loose_intensity n tables l q p) l q p face clear)
-    (front_order n (loose_intensity n tables l q p) l q p face clear (loose_intensity_order n room tables l q p face l.shine refl is has))
+shares_order : (n : ℕ) (room : Room) (tables : List Table) (l : Lamp) (q p : Place) (face : Face) (clear : Bool) → AreExactTables room tables → HasTable tables l
+    → InOrder (share n tables l q p face clear) × InOrder (loose_share n tables l q p face clear)
+shares_order n room tables l q p face clear is has =
+    lamp_shares_in_order n tables l q p face clear (λ k e. ordered room tables k is (file_inside (length tables) k l.shine e has))
 
 -- ---- sums
 
@@ -79,7 +57,7 @@ unfolding light_of_points
 lamp_order n room tables p face l is has =
     sum_to_le (part_count l) (λ k. (share n tables l (lamp_place l k) p face (is_clear room (lamp_place l k) p)).lo)
     (λ k. (share n tables l (lamp_place l k) p face (is_clear room (lamp_place l k) p)).hi)
-    (λ k h. lamp_share_order n room tables l (lamp_place l k) p face (is_clear room (lamp_place l k) p) is has)
+    (λ k h. (shares_order n room tables l (lamp_place l k) p face (is_clear room (lamp_place l k) p) is has).0)
 
 loose_lamp_order : (n : ℕ) (room : Room) (tables : List Table) (p : Place) (face : Face) (l : Lamp) → AreExactTables room tables → HasTable tables l
     → InOrder (loose_lamp_light n tables room p face l)
@@ -87,7 +65,7 @@ unfolding loose_light_of_points
 loose_lamp_order n room tables p face l is has =
     sum_to_le (part_count l) (λ k. (loose_share n tables l (lamp_place l k) p face (is_clear room (lamp_place l k) p)).lo)
     (λ k. (loose_share n tables l (lamp_place l k) p face (is_clear room (lamp_place l k) p)).hi)
-    (λ k h. loose_share_order n room tables l (lamp_place l k) p face (is_clear room (lamp_place l k) p) is has)
+    (λ k h. (shares_order n room tables l (lamp_place l k) p face (is_clear room (lamp_place l k) p) is has).1)
 
 -- each lamp of an accepted room is given by candela or by one of its files
 each_has : (room : Room) (tables : List Table) (k : ℕ) → IsAccepted room → AreExactTables room tables → k < length room.lamps → HasTable tables (slice_index_or room.lamps k no_lamp)

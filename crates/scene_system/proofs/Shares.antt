@@ -1,11 +1,11 @@
 -- The share of one point of a lamp as the program finds it.
-use Rattle.std.proofs.Common.{ℕ, ◌+◌, ◌*◌, ◌<◌, ◌≤◌, ◌≡◌, ℤ, pos, ◌≤ℤ◌, Bool, true, false, ◌&&◌, nat_lt, if◌then◌else◌, List, length, arith, refl, sym, ap, ◌∙◌, subst}
+use Rattle.std.proofs.Common.{ℕ, ◌+◌, ◌*◌, ◌<◌, ◌≤◌, ◌≡◌, pos, ◌≤ℤ◌, Bool, true, false, List, length, arith, refl, sym, ◌∙◌}
 use Rattle.std.proofs.lemmas.Int.{ints}
 use Rattle.fx_base.specs.Ends.{Ends}
-use Rattle.fx_base.specs.Fraction.{Fraction, ◌≤ᶠ◌, ◌+ᶠ◌, ◌-ᶠ◌, ◌*ᶠ◌, half_power, ratio, whole}
+use Rattle.fx_base.specs.Fraction.{Fraction, ◌≤ᶠ◌, ◌+ᶠ◌, ◌*ᶠ◌, half_power, ratio, whole}
 use Rattle.fx_base.specs.Interval.{Interval, LiesIn, Meets, exact, outward}
 use Rattle.fx_base.specs.Units.{natural, of_span, ticks}
-use Rattle.fx_base.proofs.Order.{le_trans_f, mul_le_f, sub_le_f, zero_le_f}
+use Rattle.fx_base.proofs.Order.{le_trans_f, sub_le_f, zero_le_f}
 use Rattle.fx_base.proofs.Sums.{no_ticks}
 use Rattle.room_layout.specs.Accepted.{IsShine}
 use Rattle.room_layout.specs.Place.{Place, in_front}
@@ -19,10 +19,10 @@ use Rattle.photo_table.specs.Table.{Table, upper}
 use Rattle.photo_table.proofs.Exactly.{rounded_stands}
 use Rattle.direct_light.specs.Directions.{loose_seen, seen}
 use Rattle.direct_light.specs.Lamps.{part_count}
-use Rattle.direct_light.specs.Shares.{fallen, intensity, loose_intensity, loosened, share_of, table_at}
+use Rattle.direct_light.specs.Shares.{intensity, loose_intensity, loosened, share_of, table_at}
 use Rattle.scene_system.specs.Causes.{greatest_ticks}
-use Rattle.scene_system.specs.Positions.{IsShare, most_light}
-use Rattle.scene_system.specs.Tables.{AreKept, AreTablesOf}
+use Rattle.scene_system.specs.Positions.{IsShare}
+use Rattle.scene_system.specs.Tables.{AreKept}
 use Rattle.scene_system.proofs.Kept.{kept_at}
 
 -- ---- a lamp of a file

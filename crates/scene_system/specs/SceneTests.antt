@@ -10,7 +10,7 @@ use Rattle.fx_base.specs.Search.{greatest, root_digits, whole_root}
 use Rattle.series_enclose.specs.SeriesTests.{all_series}
 use Rattle.series_enclose.specs.Series.{upper_sum, lower_sum, power_over, arctan_term, one_fifth, one_of_239, pi}
 use Rattle.room_layout.specs.Place.{Place, in_front, squared_distance, task_place}
-use Rattle.room_layout.specs.declared.geometry.Face.TheVariants.{Up, Down, East}
+use Rattle.room_layout.specs.declared.geometry.Face.TheVariants.{Up, East}
 use Rattle.room_layout.specs.declared.room.Block.{Block}
 use Rattle.room_layout.specs.declared.room.Lamp.{Lamp}
 use Rattle.room_layout.specs.declared.room.Room.{Room}

@@ -11,7 +11,6 @@ mod limits;
 mod points;
 mod scene;
 mod sight;
-mod stand_in;
 mod weights;
 
 pub use assembly::assemble;

@@ -14,7 +14,7 @@ ghost use Rattle.scene_system.specs.Tables.{AreKept};
 
 use crate::points::LampPoints;
 use crate::sight::is_clear;
-use crate::stand_in::{direct, even_light};
+use direct_light::{direct, even_light};
 use form_factor::{in_front, position_of};
 use fx_base::Span;
 use photo_table::PhotoTable;

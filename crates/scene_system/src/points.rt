@@ -3,7 +3,7 @@ ghost use Rattle.std.specs.Prelude.{IfOk};
 ghost use Rattle.room_layout.specs.Accepted.{IsAccepted};
 ghost use Rattle.scene_system.specs.Positions.{ArePointsOf};
 
-use crate::stand_in::lamp_points;
+use direct_light::lamp_points;
 use fx_base::Memory;
 use room_layout::{Point, Room};
 use std::alloc::Global;

@@ -1,9 +1,5 @@
-use Rattle.std.proofs.Common.{rules, ◌<◌, ◌≤◌, ◌≡◌, arith, length, ap, ◌∙◌, sym}
-use Rattle.patch_mesh.specs.TaskPoints.{task_points}
-use Rattle.scene_system.specs.Assembled.{open_points}
-use Rattle.scene_system.specs.Causes.{greatest_total, most_patches, total_ticks}
-use Rattle.scene_system.specs.Scene.{patch_count}
-use Rattle.scene_system.proofs.Kept.{exact_tables, limit_kept, limit_passed, same_total}
+use Rattle.std.proofs.Common.{rules}
+use Rattle.scene_system.proofs.Kept.{exact_tables, limit_kept, limit_passed}
 use Rattle.scene_system.proofs.assembly.assemble.Goals as goal
 
 pub returns-then-total-gt-GREATEST_TOTAL-clause-refused : goal.returns-then-total-gt-GREATEST_TOTAL-clause-refused

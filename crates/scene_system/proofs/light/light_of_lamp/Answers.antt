@@ -1,4 +1,4 @@
-use Rattle.std.proofs.Common.{◌+◌, ◌*◌, ◌^◌, ◌<◌, ◌≤◌, ◌≡◌, ◌∙◌, ap, length, arith, sym}
+use Rattle.std.proofs.Common.{◌+◌, ◌≡◌, length, arith}
 use Rattle.room_layout.specs.Place.{place_of}
 use Rattle.direct_light.specs.Lamps.{part_count}
 use Rattle.scene_system.proofs.Lights.{all_points, lamp_bounds, lamp_count, light_most, no_points, one_more_point, share_at}

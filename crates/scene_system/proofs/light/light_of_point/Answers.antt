@@ -1,4 +1,4 @@
-use Rattle.std.proofs.Common.{◌∙◌, sym}
+use Rattle.std.proofs.Common.{sym}
 use Rattle.room_layout.specs.Place.{place_of}
 use Rattle.room_layout.specs.Positions.{place_at}
 use Rattle.scene_system.specs.Light.{is_clear}

@@ -1,7 +1,6 @@
-use Rattle.std.proofs.Common.{◌≡◌, ◌∙◌, ◌<◌, length, arith, subst, sym}
+use Rattle.std.proofs.Common.{◌≡◌, ◌∙◌, ◌<◌, length}
 use Rattle.std.proofs.lemmas.List.{get_or_default}
 use Rattle.room_layout.specs.Place.{place_of}
-use Rattle.photo_table.specs.Table.{Table}
 use Rattle.direct_light.specs.Shares.{no_table, table_at}
 use Rattle.scene_system.proofs.Shares.{file_share, shine_inside}
 use Rattle.scene_system.proofs.light.open_light.Goals as goal

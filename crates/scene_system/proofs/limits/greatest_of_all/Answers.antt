@@ -1,4 +1,3 @@
-use Rattle.std.proofs.Common.{sym, ◌∙◌}
 use Rattle.scene_system.proofs.Kept.{one_more_kept}
 use Rattle.scene_system.proofs.limits.greatest_of_all.Goals as goal
 
