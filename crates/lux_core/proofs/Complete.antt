@@ -13,12 +13,16 @@ use Rattle.scene_system.specs.declared.fault.SceneFault.{SceneFault}
 use Rattle.scene_system.specs.declared.fault.SceneFault.TheVariants as scene_fault
 use Rattle.lux_core.specs.Answers.{IsBytesAnswer, IsAbsent, IsTooLong, IsFileAnswer, IsAnswer, CanAnswer, IsAble}
 use Rattle.lux_core.specs.Commands.{question_of, file_name}
+use Rattle.lux_core.specs.Photometry.{IsFaultOfFile, CanSum}
+use Rattle.lux_core.specs.declared.photometry.TableFault.{TableFault}
+use Rattle.lux_core.specs.declared.photometry.TableFault.TheVariants as table_fault
 use Rattle.lux_core.specs.RoomAnswers.{IsSaidOf, HasNoScene, HasHeavyRow, IsRoomAnswer, IsAbleOf}
 use Rattle.lux_core.specs.Runs.{Run, WereRead, longest_file}
 use Rattle.lux_core.specs.declared.words.RoomQuestion.{RoomQuestion}
 use Rattle.lux_core.specs.declared.words.RoomQuestion.TheVariants as asks
 use Rattle.lux_core.specs.declared.words.Question.{Question}
 use Rattle.lux_core.specs.declared.words.Question.TheVariants as question
+use Rattle.lux_core.specs.declared.words.Format.{Format}
 use Rattle.lux_core.specs.declared.words.Format.TheVariants.{Lm63, Eulumdat}
 use Rattle.lux_core.specs.declared.status.Status.{Status}
 use Rattle.lux_core.specs.declared.status.Status.TheVariants as status
@@ -93,10 +97,15 @@ room_not_refused asked bytes text room accepted able (inr b) =
 ok_or_fault : {T E : Type 0} (r : Result T E) (t : T) (e : E) → r ≡ Ok t → r ≡ Err e → ⊥
 ok_or_fault r t e f g = cc
 
+no_fault : (format : Format) (bytes : List ℕ) (f : TableFault) → CanSum format bytes → IsFaultOfFile format bytes f → ⊥
+no_fault Lm63 bytes (table_fault.Lm63 f) can refused = ok_or_fault _ can.0 f can.1 refused
+no_fault Lm63 bytes (table_fault.Eulumdat f) can refused = absurd refused
+no_fault (Eulumdat set) bytes (table_fault.Eulumdat f) can refused = ok_or_fault _ can.0 f can.1 refused
+no_fault (Eulumdat set) bytes (table_fault.Lm63 f) can refused = absurd refused
+
 not_refused : (asked : Question) (name bytes text : List ℕ) → IsAble asked bytes → IsBytesAnswer asked name bytes status.Refused text → ⊥
 not_refused (question.Room asked) name bytes text can given = room_not_refused asked bytes text can.room can.accepted can.able given
-not_refused (question.Photometry Lm63) name bytes text can given = ok_or_fault _ (can.0) given.fault (can.1) given.refused
-not_refused (question.Photometry (Eulumdat set)) name bytes text can given = ok_or_fault _ (can.0) given.fault (can.1) given.refused
+not_refused (question.Photometry format) name bytes text can given = no_fault format bytes given.fault can given.refused
 
 not_faulty : (words : List (List ℕ)) (r : Run) (asked : Question) (text : List ℕ) (c : CanAnswer words r.files) → asked ≡ c.asked
     → IsFileAnswer asked r (file_name words) status.Refused text → ⊥

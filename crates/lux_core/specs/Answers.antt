@@ -5,7 +5,7 @@ use Rattle.lux_io.specs.Files.{bytes_of, Rose}
 use Rattle.lux_io.specs.declared.take.TakeFault.{TakeFault}
 use Rattle.lux_io.specs.declared.take.TakeFault.TheVariants as take
 use Rattle.lux_core.specs.Commands.{question_of, file_name, usage_line}
-use Rattle.lux_core.specs.FileAnswers.{IsPhotometryAnswer, CanSum}
+use Rattle.lux_core.specs.Photometry.{IsPhotometryAnswer, CanSum}
 use Rattle.lux_core.specs.RoomAnswers.{IsRoomAnswer, CanTell}
 use Rattle.lux_core.specs.Runs.{Run, WereRead, longest_file}
 use Rattle.lux_core.specs.declared.status.Status.{Status}

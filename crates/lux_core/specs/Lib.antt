@@ -1,5 +1,5 @@
 pub mod Answers
-pub mod FileAnswers
+pub mod Photometry
 pub mod RoomAnswers
 pub mod Runs
 pub mod Codes
