@@ -1,0 +1,3 @@
+pub mod Lamps
+pub mod Directions
+pub mod Shares
