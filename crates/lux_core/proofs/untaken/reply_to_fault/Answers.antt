@@ -1,6 +1,6 @@
 use Rattle.std.proofs.Common.{◌++◌, ◌∙◌, refl, sym, append_assoc}
 use Rattle.std.specs.Prelude.{codes}
-use Rattle.lux_core.proofs.file.reply_to_fault.Goals as goal
+use Rattle.lux_core.proofs.untaken.reply_to_fault.Goals as goal
 
 pub returns-in_ok-text-in-Absent : goal.returns-in_ok-text-in-Absent
 returns-in_ok-text-in-Absent c =
