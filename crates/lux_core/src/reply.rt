@@ -1,6 +1,10 @@
 //! What a run answers.
+ghost use Rattle.std.specs.Prelude.{◌≡◌};
+ghost use Rattle.lux_core.specs.declared.reply.Halt.TheVariants as Halt;
+
 use crate::status::Status;
 use fx_base::Memory;
+use std::alloc::AllocFailed;
 
 /// How a run ends, and the text that it writes.
 #[derive(Drop)]
@@ -19,12 +23,17 @@ pub enum Halt {
 }
 
 impl From<Memory> for Halt {
-    ghost use Rattle.std.specs.Prelude.{◌≡◌};
-    ghost use Rattle.lux_core.specs.declared.reply.Halt.TheVariants as halt;
-
-    ghost from_gives = { λ _ result. result ≡ halt.Memory };
+    ghost from_gives = { λ _ halt. halt ≡ Halt.Memory };
 
     fn from(_: Memory) -> Self {
+        Halt::Memory
+    }
+}
+
+impl<T: Drop> From<AllocFailed<T>> for Halt {
+    ghost from_gives = { λ _ halt. halt ≡ Halt.Memory };
+
+    fn from(_failed: AllocFailed<T>) -> Self {
         Halt::Memory
     }
 }

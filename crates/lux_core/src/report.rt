@@ -1,5 +1,5 @@
 //! The report of a room, and its refusals.
-ghost use Rattle.std.specs.Prelude.{◌≡◌, ◌≢◌, ◌++◌, codes, decimal, IfOk, length, List, string_bytes};
+ghost use Rattle.std.specs.Prelude.{◌≡◌, ◌≢◌, ◌++◌, codes, decimal, IfOk, length, List, string_bytes, ℕ};
 ghost use Rattle.decimal_text.specs.Decimals.{thousandths};
 ghost use Rattle.decimal_text.specs.Lines.{line};
 ghost use Rattle.grid_report.specs.Headline.{IsRight};
