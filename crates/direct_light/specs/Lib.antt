@@ -1,3 +1,5 @@
 pub mod Lamps
 pub mod Directions
 pub mod Shares
+pub mod Ways
+pub mod Laws
