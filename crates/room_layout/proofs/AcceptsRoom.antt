@@ -54,10 +54,14 @@ document_blocks room document bs e =
     let few = given_few 64 (spot key.Box 0) (get_member (codes "box") document) ds given in
     (subst (λ n. n ≤ 64) (sym blocks.as_many) few, blocks.each_block)
 
-document_lamps : (room : Size) (document : Members) (r : Lit) → lamps_of room document ≡ Ok r → (length r.lamps ≤ 256) × AreLampsWith room [] (length r.lamps) r
+-- the values of the array `lamp`, from which the lamps are read
+pub lamps_read : (room : Size) (document : Members) (r : Lit) → lamps_of room document ≡ Ok r → (ds : List Data) × (optional [] (spot key.Lamp 0) (elements 256) (get_member (codes "lamp") document) ≡ Ok ds) × (lamps_from room 0 [] ds ≡ Ok r)
 unfolding lamps_of
+lamps_read room document r e = bind_ok (optional [] (spot key.Lamp 0) (elements 256) (get_member (codes "lamp") document)) (lamps_from room 0 []) r e
+
+document_lamps : (room : Size) (document : Members) (r : Lit) → lamps_of room document ≡ Ok r → (length r.lamps ≤ 256) × AreLampsWith room [] (length r.lamps) r
 document_lamps room document r e =
-    let (ds, given, e1) = bind_ok (optional [] (spot key.Lamp 0) (elements 256) (get_member (codes "lamp") document)) (lamps_from room 0 []) r e in
+    let (ds, given, e1) = lamps_read room document r e in
     let lamps = lamps_accepted room 0 [] ds r (lit≤ tt) e1 in
     let few = given_few 256 (spot key.Lamp 0) (get_member (codes "lamp") document) ds given in
     (subst (λ n. n ≤ 256) (sym lamps.as_many) few, subst (λ n. AreLampsWith room [] n r) (sym lamps.as_many) lamps)

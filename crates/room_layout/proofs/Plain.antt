@@ -1,8 +1,8 @@
 -- A document without the keys that aren't served yet gives what they have where they aren't given.
-use Rattle.std.proofs.Common.{◌≡◌, ℕ, ◌+◌, ◌||◌, Bool, true, false, nat_le, cond, List, [], ◌∷◌, length, All, Option, Some, None, is_some, option_map, Result, Ok, Err, codes, refl, ap, subst, sym, ◌∙◌}
+use Rattle.std.proofs.Common.{◌≡◌, ℕ, ◌+◌, ◌||◌, Bool, true, false, nat_le, List, [], ◌∷◌, length, All, Option, Some, None, is_some, option_map, Result, Ok, codes, refl, ap, subst, sym}
 use Rattle.std.specs.List.{list_any}
 use Rattle.std.specs.Option.{option_map_or}
-use Rattle.toml.specs.Data.{Data, Items, Members, get_member, as_table, as_array}
+use Rattle.toml.specs.Data.{Data, Items, Members, get_member, as_array}
 use Rattle.room_layout.specs.declared.fault.Key.TheVariants as key
 use Rattle.room_layout.specs.declared.fault.RoomFault.{RoomFault}
 use Rattle.room_layout.specs.declared.fault.RoomFault.TheVariants as fault
@@ -15,11 +15,11 @@ use Rattle.room_layout.specs.declared.room.FileUse.{FileUse}
 use Rattle.room_layout.specs.declared.room.Limits.{Limits}
 use Rattle.room_layout.specs.declared.room.Room.{Room}
 use Rattle.room_layout.specs.declared.parts.Lit.{Lit}
-use Rattle.room_layout.specs.Checks.{◌>>=◌, spot, optional, where_given, kind, number, numbers, name_text, array, elements, items_list, has_only, table_with}
+use Rattle.room_layout.specs.Checks.{◌>>=◌, spot, optional, where_given, number, numbers, name_text, array, elements, items_list, table_with}
 use Rattle.room_layout.specs.Served.{unserved_of_document, unserved_of_lamp, has_any, has_any_in, has_any_in_each, is_unserved}
 use Rattle.room_layout.specs.Layout.{lamp_keys, lamp_from, shine_of, lamp_of, lamps_from, lamps_of, limits_in, limits_of, document_of, built_room_of_document, built_room_of}
 use Rattle.room_layout.specs.Accepted.{IsPlainLamp, IsPlain}
-use Rattle.room_layout.proofs.Ranges.{bind_ok, ok_same}
+use Rattle.room_layout.proofs.Ranges.{bind_ok, ok_same, some_same, cond_ok, kind_ok, table_of}
 use Rattle.room_layout.proofs.AcceptsLamps.{All-none, All-cons, checked_accepted, HasLampParts, lamp_parts, lamp_of_parts}
 use Rattle.room_layout.proofs.AcceptsRoom.{room_parts, built_part}
 
@@ -44,19 +44,6 @@ lacks_all (k ∷ ks) members e =
     let (first, more) = or_false (is_some (get_member k members)) (has_any ks members) e in (none_from (get_member k members) first, lacks_all ks members more)
 
 -- ---- tables
-
-table_if : (members : Members) (f : RoomFault) (b : Bool) (t : Members) → cond b (Ok members) (Err f) ≡ Ok t → members ≡ t
-table_if members f true t e = ok_same _ t e
-table_if members f false t e = absurd (cc)
-
-kind_ok : {A : Type 0} (s : Spot) (o : Option A) (x : A) → kind s o ≡ Ok x → o ≡ Some x
-kind_ok s None x e = absurd (cc)
-kind_ok s (Some y) x e = ap Some (ok_same y x e)
-
-table_of : (known : List (List ℕ)) (s : Spot) (d : Data) (t : Members) → table_with known s d ≡ Ok t → as_table d ≡ Some t
-table_of known s d t e =
-    let (members, is, e1) = bind_ok (kind s (as_table d)) _ t e in
-    kind_ok s (as_table d) members is ∙ ap Some (table_if members (fault.Unknown s) (has_only known members) t e1)
 
 lacks_in : (keys known : List (List ℕ)) (s : Spot) (d : Data) (t : Members) → table_with known s d ≡ Ok t → has_any_in keys d ≡ false → LacksAll keys t
 lacks_in keys known s d t is without =
@@ -133,22 +120,15 @@ lamps_plain room i (d ∷ ds) r e without =
     let more = lamps_plain room (i + 1) ds rest rest_from_none more_without in
     subst (λ (x : Lit). All IsPlainLamp x.lamps × (x.files ≡ [])) same (All-cons IsPlainLamp l.0 rest.lamps first.0 more.0, more.1)
 
-some_same : {A : Type 0} (x y : A) → Some x ≡ Some y → x ≡ y
-some_same x y e = cc
-
 items_without : (keys : List (List ℕ)) (o : Option Items) (ds : List Data) → option_map items_list o ≡ Some ds → option_map_or (λ items. list_any (has_any_in keys) (items_list items)) o false ≡ false → list_any (has_any_in keys) ds ≡ false
 items_without keys None ds e without = absurd (cc)
 items_without keys (Some items) ds e without = subst (λ l. list_any (has_any_in keys) l ≡ false) (some_same (items_list items) ds e) without
-
-few_same : (ds : List Data) (f : RoomFault) (b : Bool) (es : List Data) → cond b (Ok ds) (Err f) ≡ Ok es → ds ≡ es
-few_same ds f true es e = ok_same _ es e
-few_same ds f false es e = absurd (cc)
 
 elements_without : (keys : List (List ℕ)) (most : ℕ) (s : Spot) (d : Data) (es : List Data) → elements most s d ≡ Ok es → has_any_in_each keys d ≡ false → list_any (has_any_in keys) es ≡ false
 elements_without keys most s d es e without =
     let (ds, is, e1) = bind_ok (array s d) _ es e in
     let found : option_map items_list (as_array d) ≡ Some ds = kind_ok s (option_map items_list (as_array d)) ds is in
-    subst (λ l. list_any (has_any_in keys) l ≡ false) (few_same ds (fault.TooMany s) (nat_le (length ds) most) es e1) (items_without keys (as_array d) ds found without)
+    subst (λ l. list_any (has_any_in keys) l ≡ false) (cond_ok ds (fault.TooMany s) (nat_le (length ds) most) es e1) (items_without keys (as_array d) ds found without)
 
 lamps_given : (o : Option Data) (ds : List Data) → optional [] (spot key.Lamp 0) (elements 256) o ≡ Ok ds → option_map_or (has_any_in_each unserved_of_lamp) o false ≡ false → list_any (has_any_in unserved_of_lamp) ds ≡ false
 lamps_given None ds e without = let same : [] ≡ ds = ok_same _ ds e in subst (λ l. list_any (has_any_in unserved_of_lamp) l ≡ false) same refl
