@@ -17,7 +17,7 @@ use Rattle.room_layout.specs.Checks.{◌>>=◌, spot, optional, where_given, kin
 use Rattle.room_layout.specs.Layout.{is_same_use, placed, shine_of, lamp_keys, lamp_of, lamps_from, room_of_document}
 use Rattle.room_layout.specs.Files.{ShinesBy, AsksFor, lamps_in, ShinesAsAsked}
 use Rattle.room_layout.proofs.Ranges.{bind_ok, ok_same, some_same, cond_ok, kind_ok, table_of}
-use Rattle.room_layout.proofs.AcceptsLamps.{checked_accepted, lamp_parts, lamp_of_parts}
+use Rattle.room_layout.proofs.AcceptsLamps.{checked_accepted, source_parts, lamp_parts, lamp_of_parts}
 use Rattle.room_layout.proofs.AcceptsRoom.{lamps_read, room_parts}
 use Rattle.room_layout.proofs.FilesOnce.{same_index, uses_placed, lamps_use}
 
@@ -85,12 +85,13 @@ asks_own room i files d r e k f shines =
     let p = lamp_parts room i files d r e in
     let (same, _, _) = checked_accepted room i (lamp_of_parts p) p.lit.1 r p.end_is in
     let shine : p.lit.0 ≡ File k = ap (λ (x : Lamp × List FileUse). x.0.shine) same ∙ shines in
-    let by = own_shine i files p.set p.candela p.file p.lit k p.lit_is shine in
-    let asks : AsksFor (record { name = by.name; set = p.set }) d = record {
+    let by = own_shine i files p.source.set p.source.candela p.source.file p.lit k p.lit_is shine in
+    let source = source_parts i p.lamp p.source p.source_is in
+    let asks : AsksFor (record { name = by.name; set = p.source.set }) d = record {
       lamp = p.lamp;
       table = table_of lamp_keys (spot key.Lamp i) d p.lamp p.lamp_is;
-      name = name_seen (spot key.LampFile i) (get_member (codes "file") p.lamp) by.name (p.file_is ∙ ap Ok by.given);
-      set = set_seen (spot key.LampSet i) (get_member (codes "set") p.lamp) p.set p.set_is;
+      name = name_seen (spot key.LampFile i) (get_member (codes "file") p.lamp) by.name (source.file ∙ ap Ok by.given);
+      set = set_seen (spot key.LampSet i) (get_member (codes "set") p.lamp) p.source.set source.set;
     } in
     subst (λ (x : Lamp × List FileUse). (k < length x.1) × AsksFor (get_or x.1 k f) d) same (by.within, subst (λ g. AsksFor g d) (sym (by.own f)) asks)
 

@@ -115,7 +115,7 @@ uses_lamp : (room : Size) (i : ℕ) (files : List FileUse) (d : Data) (r : Lamp 
 uses_lamp room i files d r e =
     let p = lamp_parts room i files d r e in
     let (same, _, _) = checked_accepted room i (lamp_of_parts p) p.lit.1 r p.end_is in
-    subst (λ (v : Lamp × List FileUse). UsesNext files v.0.shine v.1) same (uses_shine i files p.set p.candela p.file p.lit p.lit_is)
+    subst (λ (v : Lamp × List FileUse). UsesNext files v.0.shine v.1) same (uses_shine i files p.source.set p.source.candela p.source.file p.lit p.lit_is)
 
 -- ---- all lamps
 

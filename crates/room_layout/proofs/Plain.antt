@@ -14,13 +14,14 @@ use Rattle.room_layout.specs.declared.room.Shine.TheVariants.{Even}
 use Rattle.room_layout.specs.declared.room.FileUse.{FileUse}
 use Rattle.room_layout.specs.declared.room.Limits.{Limits}
 use Rattle.room_layout.specs.declared.room.Room.{Room}
+use Rattle.room_layout.specs.declared.parts.Fitting.{Fitting}
 use Rattle.room_layout.specs.declared.parts.Lit.{Lit}
-use Rattle.room_layout.specs.Checks.{◌>>=◌, spot, optional, where_given, number, numbers, name_text, array, elements, items_list, table_with}
+use Rattle.room_layout.specs.Checks.{◌>>=◌, spot, optional, where_given, name_text, array, elements, items_list, table_with}
 use Rattle.room_layout.specs.Served.{unserved_of_document, unserved_of_lamp, has_any, has_any_in, has_any_in_each, is_unserved}
-use Rattle.room_layout.specs.Layout.{lamp_keys, lamp_from, shine_of, lamp_of, lamps_from, lamps_of, limits_in, limits_of, document_of, built_room_of_document, built_room_of}
+use Rattle.room_layout.specs.Layout.{lamp_keys, lamp_from, fitting_from, fitting_of, shine_of, lamp_of, lamps_from, lamps_of, limits_in, limits_of, document_of, built_room_of_document, built_room_of}
 use Rattle.room_layout.specs.Accepted.{IsPlainLamp, IsPlain}
 use Rattle.room_layout.proofs.Ranges.{bind_ok, ok_same, some_same, cond_ok, kind_ok, table_of}
-use Rattle.room_layout.proofs.AcceptsLamps.{All-none, All-cons, checked_accepted, HasLampParts, lamp_parts, lamp_of_parts}
+use Rattle.room_layout.proofs.AcceptsLamps.{All-none, All-cons, checked_accepted, HasLampParts, source_parts, lamp_parts, lamp_of_parts}
 use Rattle.room_layout.proofs.AcceptsRoom.{room_parts, built_part}
 
 -- ---- keys that aren't given
@@ -74,33 +75,22 @@ shine_plain i set (Some n) None r none e =
     let same : (Even n, []) ≡ r = ok_same _ r e in
     ((n, sym (ap (λ (x : Shine × List FileUse). x.0) same)), sym (ap (λ (x : Shine × List FileUse). x.1) same))
 
-plain_from : (at : List ℕ) (shine : Shine) (turn maintenance : ℕ) (size split : List ℕ) → ((n : ℕ) × (shine ≡ Even n)) → 0 ≡ turn → 1000 ≡ maintenance → (0 ∷ 0 ∷ []) ≡ size → (1 ∷ 1 ∷ []) ≡ split
-    → IsPlainLamp (lamp_from at shine turn maintenance size split)
-plain_from at shine turn maintenance size split even t m s p =
-    let known_size : IsPlainLamp (lamp_from at shine turn maintenance (0 ∷ 0 ∷ []) (1 ∷ 1 ∷ [])) = record {
-      shine = even;
-      turn = sym t;
-      maintenance = sym m;
-      size_x = refl;
-      size_y = refl;
-      split_x = refl;
-      split_y = refl;
-    } in
-    subst (λ l. IsPlainLamp (lamp_from at shine turn maintenance size l)) p (subst (λ l. IsPlainLamp (lamp_from at shine turn maintenance l (1 ∷ 1 ∷ []))) s known_size)
+plain_from : (at : List ℕ) (shine : Shine) (f : Fitting) → ((n : ℕ) × (shine ≡ Even n)) → fitting_from 0 1000 (0 ∷ 0 ∷ []) (1 ∷ 1 ∷ []) ≡ f → IsPlainLamp (lamp_from at shine f)
+plain_from at shine f even is =
+    subst (λ g. IsPlainLamp (lamp_from at shine g)) is
+    (record { shine = even; turn = refl; maintenance = refl; size_x = refl; size_y = refl; split_x = refl; split_y = refl })
+
+fitting_plain : (i : ℕ) (lamp : Members) (f : Fitting) → LacksAll unserved_of_lamp lamp → fitting_of i lamp ≡ Ok f → fitting_from 0 1000 (0 ∷ 0 ∷ []) (1 ∷ 1 ∷ []) ≡ f
+unfolding fitting_of
+fitting_plain i lamp f lacks e = ok_same _ f (rw (lacks.1.1.0, lacks.1.1.1.0, lacks.1.1.1.1.0, lacks.1.1.1.1.1.0) at e)
 
 parts_plain : (room : Size) (i : ℕ) (d : Data) (r : Lamp × List FileUse) → (p : HasLampParts room i [] d r) → LacksAll unserved_of_lamp p.lamp → IsPlainLamp r.0 × (r.1 ≡ [])
 parts_plain room i d r p lacks =
     let (same, _, _) = checked_accepted room i (lamp_of_parts p) p.lit.1 r p.end_is in
-    let no_file = where_not_given (spot key.LampFile i) name_text (get_member (codes "file") p.lamp) p.file lacks.0 p.file_is in
-    let shine = shine_plain i p.set p.candela p.file p.lit no_file p.lit_is in
-    subst (λ (x : Lamp × List FileUse). IsPlainLamp x.0 × (x.1 ≡ [])) same (
-      plain_from p.at p.lit.0 p.turn p.maintenance p.size p.split shine.0
-          (optional_default 0 (spot key.LampTurn i) (number 0 359) (get_member (codes "turn") p.lamp) p.turn lacks.1.1.0 p.turn_is)
-          (optional_default 1000 (spot key.LampMaintenance i) (number 0 1000) (get_member (codes "maintenance") p.lamp) p.maintenance lacks.1.1.1.0 p.maintenance_is)
-          (optional_default (0 ∷ 0 ∷ []) (spot key.LampSize i) (numbers 2 0 5000) (get_member (codes "size") p.lamp) p.size lacks.1.1.1.1.0 p.size_is)
-          (optional_default (1 ∷ 1 ∷ []) (spot key.LampSplit i) (numbers 2 1 8) (get_member (codes "split") p.lamp) p.split lacks.1.1.1.1.1.0 p.split_is),
-      shine.1,
-    )
+    let source = source_parts i p.lamp p.source p.source_is in
+    let no_file = where_not_given (spot key.LampFile i) name_text (get_member (codes "file") p.lamp) p.source.file lacks.0 source.file in
+    let shine = shine_plain i p.source.set p.source.candela p.source.file p.lit no_file p.lit_is in
+    subst (λ (x : Lamp × List FileUse). IsPlainLamp x.0 × (x.1 ≡ [])) same (plain_from p.at p.lit.0 p.fitting shine.0 (fitting_plain i p.lamp p.fitting lacks p.fitting_is), shine.1)
 
 lamp_plain : (room : Size) (i : ℕ) (d : Data) (r : Lamp × List FileUse) → lamp_of room i [] d ≡ Ok r → has_any_in unserved_of_lamp d ≡ false → IsPlainLamp r.0 × (r.1 ≡ [])
 lamp_plain room i d r e without =
