@@ -1,7 +1,8 @@
 -- The lamps of a room that the layout gives, and the files that they use.
-use Rattle.std.proofs.Common.{◌≡◌, ℕ, ◌+◌, ◌*◌, ◌<◌, ◌≤◌, Bool, true, false, nat_le, zero, suc, List, [], ◌∷◌, ◌++◌, length, get_or, All, Option, Some, None, IfSome, Ok, Err, cond, codes, refl, ap, subst, lit<, lit≤, arith, length-append}
+use Rattle.std.proofs.Common.{◌≡◌, ℕ, ◌+◌, ◌*◌, ◌<◌, ◌≤◌, Bool, true, false, nat_le, suc, List, [], ◌∷◌, length, All, Option, Some, None, IfSome, Ok, Err, cond, codes, refl, ap, subst, lit<, lit≤, arith, length-append}
 use Rattle.std.specs.List.{position}
 use Rattle.std.proofs.lemmas.Bool.{and_parts}
+use Rattle.std.proofs.lemmas.List.Elements.{All-nil, All-cons, All-push}
 use Rattle.std.proofs.lemmas.List.Quantifiers.{position-Some}
 use Rattle.toml.specs.Data.{Data, Members, get_member, as_str}
 use Rattle.room_layout.specs.declared.fault.Key.TheVariants as key
@@ -20,28 +21,6 @@ use Rattle.room_layout.specs.Layout.{fits_in, has_margin, is_same_use, placed_at
 use Rattle.room_layout.specs.Accepted.{IsBetween, HasMargin, IsShine, IsLampIn, IsFileUse}
 use Rattle.room_layout.proofs.Accepts.{both, le_from, candela_accepted}
 use Rattle.room_layout.proofs.Ranges.{bind_ok, ok_same, demand_ok, optional_number_between, optional_numbers_between, no_size_between, no_split_between}
-
--- ---- facts of each element
-
-pub All-none : {A : Type 0} (P : A → Type 0) → All P []
-All-none P k d h = absurd (omega (arith, h))
-
-pub All-cons : {A : Type 0} (P : A → Type 0) (x : A) (xs : List A) → P x → All P xs → All P (x ∷ xs)
-All-cons P x xs first more zero d h = first
-All-cons P x xs first more (suc k) d h = more k d (omega arith)
-
-pub All-head : {A : Type 0} (P : A → Type 0) (x : A) (xs : List A) → All P (x ∷ xs) → P x
-All-head P x xs all = all 0 x (omega arith)
-
-pub All-tail : {A : Type 0} (P : A → Type 0) (x : A) (xs : List A) → All P (x ∷ xs) → All P xs
-All-tail P x xs all k d h = all (suc k) d (omega arith)
-
-pub All-last : {A : Type 0} (P : A → Type 0) (xs : List A) (x : A) → All P xs → P x → All P (xs ++ x ∷ [])
-All-last P [] x all last = All-cons P x [] last (All-none P)
-All-last P (y ∷ ys) x all last = All-cons P y (ys ++ x ∷ []) (All-head P y ys all) (All-last P ys x (All-tail P y ys all) last)
-
-pub All-weaker : {A : Type 0} (P Q : A → Type 0) (xs : List A) → ((x : A) → P x → Q x) → All P xs → All Q xs
-All-weaker P Q xs weaker all k d h = weaker (get_or xs k d) (all k d h)
 
 -- ---- names
 
@@ -67,7 +46,7 @@ pub record ExtendsFiles (files more : List FileUse) : Type 0 where
 placed_extends : (f : FileUse) (files : List FileUse) (o : Option ℕ) → position (is_same_use f) files ≡ o → IsFileUse f → (let r = placed_at f files o in ExtendsFiles files r.1 × (r.0 < length r.1))
 placed_extends f files (Some k) found is_file = (record { longer = omega arith; each_file = λ all. all }, (position-Some (is_same_use f) files k f found).0)
 placed_extends f files None found is_file =
-    (record { longer = omega (arith, length-append files (f ∷ [])); each_file = λ all. All-last IsFileUse files f all is_file }, omega (arith, length-append files (f ∷ [])))
+    (record { longer = omega (arith, length-append files (f ∷ [])); each_file = λ all. All-push IsFileUse files f all is_file }, omega (arith, length-append files (f ∷ [])))
 
 pub shine_accepted : (i : ℕ) (files : List FileUse) (set : ℕ) (candela : Option ℕ) (file : Option (List ℕ)) (r : Shine × List FileUse) → shine_of i files set candela file ≡ Ok r
     → IsBetween 1 20 set → IfSome candela (λ n. n ≤ 10000000) → IfSome file (λ name. is_name name ≡ true)
@@ -245,7 +224,7 @@ pub record AreLampsWith (room : Size) (files : List FileUse) (count : ℕ) (r : 
 pub lamps_accepted : (room : Size) (i : ℕ) (files : List FileUse) (ds : List Data) (r : Lit) → length files ≤ 16 → lamps_from room i files ds ≡ Ok r → AreLampsWith room files (length ds) r
 lamps_accepted room i files [] r few e =
     let same : record { lamps = []; files = files } ≡ r = ok_same _ r e in
-    subst (AreLampsWith room files 0) same (record { as_many = refl; each_lamp = All-none _; extends = record { longer = omega arith; each_file = λ all. all }; few = few })
+    subst (AreLampsWith room files 0) same (record { as_many = refl; each_lamp = All-nil _; extends = record { longer = omega arith; each_file = λ all. all }; few = few })
 lamps_accepted room i files (d ∷ ds) r few e =
     let (l, lamp_is, e1) = bind_ok (lamp_of room i files d) (λ l. lamps_from room (i + 1) l.1 ds >>= λ r. Ok (record { lamps = l.0 ∷ r.lamps; files = r.files })) r e in
     let (rest, rest_is, e2) = bind_ok (lamps_from room (i + 1) l.1 ds) (λ r. Ok (record { lamps = l.0 ∷ r.lamps; files = r.files })) r e1 in

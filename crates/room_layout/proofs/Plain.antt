@@ -2,6 +2,7 @@
 use Rattle.std.proofs.Common.{◌≡◌, ℕ, ◌+◌, ◌||◌, Bool, true, false, nat_le, List, [], ◌∷◌, length, All, Option, Some, None, is_some, option_map, Result, Ok, codes, refl, ap, subst, sym}
 use Rattle.std.specs.List.{list_any}
 use Rattle.std.specs.Option.{option_map_or}
+use Rattle.std.proofs.lemmas.List.Elements.{All-nil, All-cons}
 use Rattle.toml.specs.Data.{Data, Items, Members, get_member, as_array}
 use Rattle.room_layout.specs.declared.fault.Key.TheVariants as key
 use Rattle.room_layout.specs.declared.fault.RoomFault.{RoomFault}
@@ -21,7 +22,7 @@ use Rattle.room_layout.specs.Served.{unserved_of_document, unserved_of_lamp, has
 use Rattle.room_layout.specs.Layout.{lamp_keys, lamp_from, fitting_from, fitting_of, shine_of, lamp_of, lamps_from, lamps_of, limits_in, limits_of, document_of, built_room_of_document, built_room_of}
 use Rattle.room_layout.specs.Accepted.{IsPlainLamp, IsPlain}
 use Rattle.room_layout.proofs.Ranges.{bind_ok, ok_same, some_same, cond_ok, kind_ok, table_of}
-use Rattle.room_layout.proofs.AcceptsLamps.{All-none, All-cons, checked_accepted, HasLampParts, source_parts, lamp_parts, lamp_of_parts}
+use Rattle.room_layout.proofs.AcceptsLamps.{checked_accepted, HasLampParts, source_parts, lamp_parts, lamp_of_parts}
 use Rattle.room_layout.proofs.AcceptsRoom.{room_parts, built_part}
 
 -- ---- keys that aren't given
@@ -99,7 +100,7 @@ lamp_plain room i d r e without =
 lamps_plain : (room : Size) (i : ℕ) (ds : List Data) (r : Lit) → lamps_from room i [] ds ≡ Ok r → list_any (has_any_in unserved_of_lamp) ds ≡ false → All IsPlainLamp r.lamps × (r.files ≡ [])
 lamps_plain room i [] r e without =
     let same : record { lamps = []; files = [] } ≡ r = ok_same _ r e in
-    subst (λ (x : Lit). All IsPlainLamp x.lamps × (x.files ≡ [])) same (All-none IsPlainLamp, refl)
+    subst (λ (x : Lit). All IsPlainLamp x.lamps × (x.files ≡ [])) same (All-nil IsPlainLamp, refl)
 lamps_plain room i (d ∷ ds) r e without =
     let (first_without, more_without) = or_false (has_any_in unserved_of_lamp d) (list_any (has_any_in unserved_of_lamp) ds) without in
     let (l, lamp_is, e1) = bind_ok (lamp_of room i [] d) (λ l. lamps_from room (i + 1) l.1 ds >>= λ r. Ok (record { lamps = l.0 ∷ r.lamps; files = r.files })) r e in
