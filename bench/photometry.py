@@ -112,25 +112,26 @@ def ticks_below(value):
 
 
 def check(source):
-    """Texts stand there as `const NAME: &str`, and rows of C and gamma in millionths and ticks as `const NAME_ROWS`."""
-    texts = {name: eval(f'"{body}"') for name, body in re.findall(r'const (\w+): &str =\s*"((?:[^"\\]|\\.)*)";', source)}
+    """Texts stand there as `const NAME: &str`, and rows of C and gamma in millionths of a degree and of ticks as
+    `const NAME_ROWS`."""
+    texts = {name: body.replace("\\n", "\n") for name, body in re.findall(r'const (\w+): &str =\s*"([^"]*)";', source)}
     wrong = 0
     for name, text in texts.items():
-        rows = re.search(rf"const {name}_ROWS: [^=]*= \[(.*?)\];", source, re.S)
+        rows = re.search(rf'const {name}_ROWS: &str =\s*"([^"]*)";', source)
         if rows is None:
             continue
         lamp = Lamp(text.encode(), 1)
-        found = [int(n.replace("_", "")) for n in re.findall(r"-?[\d_]+", re.sub(r"//.*", "", rows[1]))]
-        for c, g, ticks in zip(found[0::3], found[1::3], found[2::3]):
+        found = [[int(n) for n in row.split()] for row in rows[1].splitlines()]
+        for c, g, ticks in found:
             wanted = ticks_below(lamp.intensity(Fraction(c, 10**6), Fraction(g, 10**6)))
             wrong += wanted != ticks
             if wanted != ticks:
                 print(f"{name} at {c}, {g}: {wanted}, and not {ticks}")
         summary = lamp.summary()
-        if f'"{summary}\\n"' not in source:
+        if f'{name}, "{summary}", {name}_ROWS' not in re.sub(r"\s+", " ", source):
             wrong += 1
             print(f"{name}: {summary}")
-        print(f"{name}: {len(found) // 3} rows")
+        print(f"{name}: {len(found)} rows")
     sys.exit(wrong > 0)
 
 

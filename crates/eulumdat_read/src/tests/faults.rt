@@ -35,87 +35,86 @@ fn cut(alloc: Global, n: usize) -> Result<String, Fail> {
     Ok(text)
 }
 
-/// What the file answers with each text in line k.
-fn check(rt: &impl Abort, alloc: Global, cases: &[(usize, &str, &str)]) -> Result<(), Fail> {
-    for (k, other, wanted) in cases {
-        let text = spoiled(alloc, *k, other)?;
+/// What the file answers with another text in one of its lines: cases of the line's number, the text and the answer.
+fn check(rt: &impl Abort, alloc: Global, cases: &str) -> Result<(), Fail> {
+    for case in cases.lines() {
+        let (number, rest) = case.split_once(" | ").ok_or("a number")?;
+        let (other, wanted) = rest.split_once(" | ").ok_or("a text")?;
+        let k: usize = number.parse().ok().ok_or("a number")?;
+        let text = spoiled(alloc, k, other)?;
         let line = answer(alloc, text.as_str().as_bytes(), 1)?;
-        assert_eq!(rt; line.as_str(), *wanted, "{k} {other}");
+        assert_eq!(rt; line.as_str().trim_end(), wanted, "{case}");
     }
     Ok(())
 }
 
+/// In a line of the head: its number, the text in it, and the answer.
+const HEAD_FAULTS: &str = "3 | x | 2 Number 3
+3 |  | 2 Number 3
+3 | 5 | 3 Range 3
+3 | 0.5 | 3 Range 3
+3 | -1 | 3 Range 3
+4 | 2 2 | 2 Number 4
+4 | 0 | 3 Range 4
+4 | 721 | 3 Range 4
+4 | 2.000001 | 3 Range 4
+4 | 3 | 7 Expand 1 PlaneCount
+6 | 2e0 | 2 Number 6
+6 | 1 | 3 Range 6
+6 | 722 | 3 Range 6
+24 | . | 2 Number 24
+24 | -0.000001 | 3 Range 24
+24 | 1000.000001 | 3 Range 24
+24 | 1234567890 | 3 Range 24
+26 | two | 2 Number 26
+26 | 0 | 3 Range 26
+26 | 21 | 3 Range 26";
+
 #[test]
 fn lines_of_the_head(rt: HostRuntime) -> Result<(), Fail> {
-    let cases = [
-        (3, "x", "2 Number 3"),
-        (3, "", "2 Number 3"),
-        (3, "5", "3 Range 3"),
-        (3, "0.5", "3 Range 3"),
-        (3, "-1", "3 Range 3"),
-        (4, "2 2", "2 Number 4"),
-        (4, "0", "3 Range 4"),
-        (4, "721", "3 Range 4"),
-        (4, "2.000001", "3 Range 4"),
-        (4, "3", "7 Expand 1 PlaneCount"),
-        (6, "2e0", "2 Number 6"),
-        (6, "1", "3 Range 6"),
-        (6, "722", "3 Range 6"),
-        (24, ".", "2 Number 24"),
-        (24, "-0.000001", "3 Range 24"),
-        (24, "1000.000001", "3 Range 24"),
-        (24, "1234567890", "3 Range 24"),
-        (26, "two", "2 Number 26"),
-        (26, "0", "3 Range 26"),
-        (26, "21", "3 Range 26"),
-    ];
-    check(&rt, rt.alloc(), &cases)
+    check(&rt, rt.alloc(), HEAD_FAULTS)
 }
+
+/// In a line behind it.
+const BODY_FAULTS: &str = "29 | LED | 2 Number 29
+29 | -1 | 3 Range 29
+29 | 10000000.000001 | 3 Range 29
+35 | +-1 | 2 Number 35
+35 | -1 | 3 Range 35
+35 | 99999999 | 3 Range 35
+49 | 0: | 2 Number 49
+49 | -1 | 3 Range 49
+49 | 360 | 3 Range 49
+50 | 0 | 5 Order 50
+50 | 360 | 3 Range 50
+50 | 170 | 7 Expand 2 PlaneAngle
+49 | 1 | 7 Expand 2 PlaneAngle
+51 | 90 | 5 Order 52
+52 |  | 2 Number 52
+52 | -0.5 | 3 Range 52
+52 | 180.000001 | 3 Range 52
+53 | -0.5 | 6 Negative 53
+54 | 1,2,3 | 2 Number 54
+55 | 10000000.000001 | 8 Intensity 55
+56 | 1234567890 | 3 Range 56";
 
 #[test]
 fn lines_of_the_body(rt: HostRuntime) -> Result<(), Fail> {
-    let cases = [
-        (29, "LED", "2 Number 29"),
-        (29, "-1", "3 Range 29"),
-        (29, "10000000.000001", "3 Range 29"),
-        (35, "+-1", "2 Number 35"),
-        (35, "-1", "3 Range 35"),
-        (35, "99999999", "3 Range 35"),
-        (49, "0:", "2 Number 49"),
-        (49, "-1", "3 Range 49"),
-        (49, "360", "3 Range 49"),
-        (50, "0", "5 Order 50"),
-        (50, "360", "3 Range 50"),
-        (50, "170", "7 Expand 2 PlaneAngle"),
-        (49, "1", "7 Expand 2 PlaneAngle"),
-        (51, "90", "5 Order 52"),
-        (52, "", "2 Number 52"),
-        (52, "-0.5", "3 Range 52"),
-        (52, "180.000001", "3 Range 52"),
-        (53, "-0.5", "6 Negative 53"),
-        (54, "1,2,3", "2 Number 54"),
-        (55, "10000000.000001", "8 Intensity 55"),
-        (56, "1234567890", "3 Range 56"),
-    ];
-    check(&rt, rt.alloc(), &cases)
+    check(&rt, rt.alloc(), BODY_FAULTS)
 }
+
+/// Numbers at the ends of their ranges.
+const EDGES: &str = "24 | 0 | planes 2 gammas 2 greatest 0.00 0.00
+24 | 1000 | planes 2 gammas 2 greatest 40000.00 40000.00
+29 | 0 | planes 2 gammas 2 greatest 0.00 0.00
+35 | 10000000 | planes 2 gammas 2 greatest 40.00 40.00
+51 | -0 | planes 2 gammas 2 greatest 40.00 40.00
+52 | 180 | planes 2 gammas 2 greatest 40.00 40.00
+53 | 10000000 | planes 2 gammas 2 greatest 10000000.00 10000000.00";
 
 #[test]
 fn the_ends_of_the_ranges_are_read(rt: HostRuntime) -> Result<(), Fail> {
-    let cases = [
-        (24, "0", "planes 2 gammas 2 greatest 0.00 0.00\n"),
-        (24, "1000", "planes 2 gammas 2 greatest 40000.00 40000.00\n"),
-        (29, "0", "planes 2 gammas 2 greatest 0.00 0.00\n"),
-        (35, "10000000", READ),
-        (51, "-0", READ),
-        (52, "180", READ),
-        (
-            53,
-            "10000000",
-            "planes 2 gammas 2 greatest 10000000.00 10000000.00\n",
-        ),
-    ];
-    check(&rt, rt.alloc(), &cases)
+    check(&rt, rt.alloc(), EDGES)
 }
 
 #[test]

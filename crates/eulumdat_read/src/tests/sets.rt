@@ -29,42 +29,27 @@ fn file(alloc: Global, isym: &str, factor: &str, flux: &str, value: &str) -> Res
     )?)
 }
 
+/// The symmetry indicator, the conversion factor, the flux, the first intensity, and the greatest one in candela.
+const NUMBERS: &str = "1 | 1 | 2000 | 100 | 200.00 200.00
+ 1\t | 1.0 | +2000.000000 | \t 100  | 200.00 200.00
+1 | 0.5 | 2000 | 200 | 200.00 200.00
+1 | ,5 | 4000 | 00000000100 | 200.00 200.00
+1 | 1 | 2000 | 99.9999999 | 200.00 200.00
+1 | 1 | 2000 | 100,5 | 201.00 201.00
+1 | 1 | 2000 | 5000000 | 10000000.00 10000000.00
+1 | 0.333333 | 1500 | 1 | 49.99 50.00";
+
 #[test]
 fn numbers_in_their_lines(rt: HostRuntime) -> Result<(), Fail> {
-    let read = "planes 1 gammas 2 greatest 200.00 200.00\n";
-    let cases = [
-        ("1", "1", "2000", "100", read),
-        (" 1\t", "1.0", "+2000.000000", "\t 100 ", read),
-        ("1", "0.5", "2000", "200", read),
-        ("1", ",5", "4000", "00000000100", read),
-        ("1", "1", "2000", "99.9999999", read),
-        (
-            "1",
-            "1",
-            "2000",
-            "100,5",
-            "planes 1 gammas 2 greatest 201.00 201.00\n",
-        ),
-        (
-            "1",
-            "1",
-            "2000",
-            "5000000",
-            "planes 1 gammas 2 greatest 10000000.00 10000000.00\n",
-        ),
-        // the second one is 49.99995 cd
-        (
-            "1",
-            "0.333333",
-            "1500",
-            "1",
-            "planes 1 gammas 2 greatest 49.99 50.00\n",
-        ),
-    ];
-    for (isym, factor, flux, value, wanted) in cases {
+    for case in NUMBERS.lines() {
+        let (isym, rest) = case.split_once(" | ").ok_or("an indicator")?;
+        let (factor, rest) = rest.split_once(" | ").ok_or("a factor")?;
+        let (flux, rest) = rest.split_once(" | ").ok_or("a flux")?;
+        let (value, greatest) = rest.split_once(" | ").ok_or("a value")?;
         let text = file(rt.alloc(), isym, factor, flux, value)?;
         let line = answer(rt.alloc(), text.as_str().as_bytes(), 1)?;
-        assert_eq!(rt; line.as_str(), wanted, "{factor} {flux} {value}");
+        let wanted = format!(in rt.alloc(); "planes 1 gammas 2 greatest {greatest}\n")?;
+        assert_eq!(rt; line.as_str(), wanted.as_str(), "{case}");
     }
     Ok(())
 }
