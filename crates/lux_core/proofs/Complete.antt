@@ -1,16 +1,15 @@
 -- Where an answer can be given and nothing fails, it is given.
-use Rattle.std.proofs.Common.{ℕ, zero, suc, ◌<◌, ◌≤◌, ◌≡◌, ◌≢◌, ◌⊎◌, inl, inr, List, [], ◌∷◌, length, map, slice_index_or, refl, sym, ap, ◌∙◌, subst, arith}
+use Rattle.std.proofs.Common.{ℕ, zero, suc, ◌<◌, ◌≤◌, ◌≡◌, ◌≢◌, ◌⊎◌, inl, inr, List, [], ◌∷◌, length, slice_index_or, refl, sym, ap, ◌∙◌, subst, arith}
 use Rattle.std.specs.Prelude.{Option, Some, None, IfSome, IsSomeAnd, Result, Ok, Err}
 use Rattle.std.proofs.Math.ListN.{length-map}
 use Rattle.lux_io.specs.Files.{bytes_of, Rose, Stood}
 use Rattle.lm63_read.specs.Tables.{IsTableOf}
 use Rattle.lm63_read.specs.Files.{IesFile}
-use Rattle.eulumdat_read.specs.Ldt.{LdtFile, table_of_file}
+use Rattle.eulumdat_read.specs.Ldt.{table_of_file}
 use Rattle.photo_table.specs.Table.{Table}
 use Rattle.room_layout.specs.Layout.{built_room_of}
 use Rattle.room_layout.specs.declared.room.FileUse.{FileUse}
 use Rattle.room_layout.specs.declared.room.Room.{Room}
-use Rattle.room_layout.specs.declared.fault.RoomFault.{RoomFault}
 use Rattle.fx_base.specs.Fraction.{Fraction, ◌≤ᶠ◌, ◌<ᶠ◌}
 use Rattle.fx_base.proofs.Order.{lt_le_trans_f}
 use Rattle.scene_system.specs.Causes.{IsCause, IsWithinLimits}
@@ -21,7 +20,7 @@ use Rattle.lux_core.specs.Answers.{IsBytesAnswer, IsFileAnswer, IsAnswer, CanAns
 use Rattle.lux_core.specs.Commands.{question_of, file_name, format_of}
 use Rattle.lux_core.specs.LampFiles.{LampFile, WasRead, WereRead, HasUnreadFile, IsUnreadFile, IsRefusedFile, file_at, nothing_read, tables_of}
 use Rattle.lux_core.specs.Photometry.{IsFaultOfFile, IsTableOfFile, CanSum}
-use Rattle.lux_core.specs.ReportAnswers.{HasNoScene, HasHeavyRow, IsReportAnswer, IsOfTables, CanReport}
+use Rattle.lux_core.specs.ReportAnswers.{HasNoScene, HasHeavyRow, IsReportAnswer, CanReport}
 use Rattle.lux_core.specs.RoomAnswers.{IsSaidOf, IsRoomAnswer, IsAbleOf}
 use Rattle.lux_core.specs.Runs.{Run, IsContent, longest_file}
 use Rattle.lux_core.specs.Untaken.{IsAbsent, IsTooLong, IsUntaken}
@@ -160,8 +159,8 @@ same_tables : (r : Run) (told : List (List ℕ × List ℕ)) (files : List FileU
 same_tables r told files reads others e size were can =
     same_lists (tables_of reads) (tables_of others) nothing_read.table (length-map reads (λ (read : LampFile). read.table) ∙ (size ∙ sym (length-map others (λ (read : LampFile). read.table))))
     (λ k l. let h : k < length reads = rw (length-map reads (λ (read : LampFile). read.table)) at l in
-        table_in reads k ∙ (one_read r told (file_at files k) (slice_index_or reads k nothing_read) (slice_index_or others k nothing_read) e (were.each k h) (can.each k (rw (size) at h))
-        ∙ sym (table_in others k)))
+    table_in reads k ∙ (one_read r told (file_at files k) (slice_index_or reads k nothing_read) (slice_index_or others k nothing_read) e (were.each k h) (can.each k (rw (size) at h))
+    ∙ sym (table_in others k)))
 
 -- ---- rooms
 
@@ -213,6 +212,7 @@ room_done asked r told bytes room given text e s accepted able a = by_status giv
     of_room g o is said =
         let same : o ≡ room = ok_same (built_room_of bytes) o room is accepted in
         said_done asked r told bytes room g text e s able (subst (λ (x : Room). IsSaidOf asked r bytes x g text) same said)
+
     by_status : (g : Status) → IsRoomAnswer asked r bytes g text → g ≡ status.Done
     by_status status.Done a = refl
     by_status status.Refused (inl f) = absurd (ok_or_fault (built_room_of bytes) room f.fault accepted f.refused)
@@ -234,11 +234,13 @@ file_done words r given text c s a = by_status given a
   where
     is_there : IsThere r (file_name words) c.bytes
     is_there = record { told = c.told; files_are = c.files_are; found = c.found; few = c.few }
+
     of_bytes : (g : Status) → (bytes : List ℕ) → IsContent r.files (file_name words) bytes → IsBytesAnswer c.asked r (file_name words) bytes g text → g ≡ status.Done
     of_bytes g bytes content given =
         let same = same_content r (file_name words) c.bytes bytes is_there content in
         bytes_done c.asked r c.told (file_name words) c.bytes g text c.files_are s c.able
         (subst (λ (b : List ℕ). IsBytesAnswer c.asked r (file_name words) b g text) same given)
+
     by_status : (g : Status) → IsFileAnswer c.asked r (file_name words) g text → g ≡ status.Done
     by_status status.Done a = refl
     by_status status.Refused (inl u) = absurd (taken_there r (file_name words) c.bytes text status.Refused is_there s u)

@@ -1,13 +1,12 @@
 -- The files of a room's lamps, one after the other.
-use Rattle.std.proofs.Common.{ℕ, zero, suc, ◌+◌, ◌<◌, ◌≤◌, ◌≡◌, ◌⊎◌, inl, inr, List, [], ◌∷◌, ◌++◌, length, map, slice_index_or, refl, sym, ap, subst, ◌∙◌, arith}
+use Rattle.std.proofs.Common.{ℕ, ◌+◌, ◌<◌, ◌≤◌, ◌≡◌, ◌⊎◌, inl, inr, List, [], ◌∷◌, ◌++◌, length, slice_index_or, refl, sym, ap, subst, ◌∙◌, arith}
 use Rattle.std.specs.Prelude.{Option, Some, IfSome, string_bytes}
 use Rattle.lux_io.specs.Files.{bytes_of}
-use Rattle.std.proofs.lemmas.List.{length-append, map-append, get_or_append_left, get_or-append_right, get_or_default}
+use Rattle.std.proofs.lemmas.List.{length-append, map-append, get_or_append_left, get_or_default}
 use Rattle.std.proofs.lemmas.Bool.{cases_lt}
-use Rattle.std.proofs.Math.ListN.{length-map}
 use Rattle.photo_table.specs.Exact.{IsRoundedOf}
 use Rattle.photo_table.specs.Table.{Table}
-use Rattle.direct_light.specs.Shares.{no_table, table_at}
+use Rattle.direct_light.specs.Shares.{no_table}
 use Rattle.room_layout.specs.declared.room.FileUse.{FileUse}
 use Rattle.scene_system.specs.Tables.{AreTablesOf}
 use Rattle.lux_core.specs.LampFiles.{LampFile, WasRead, WereRead, HasUnreadFile, IsUnreadFile, file_at, no_file, last_bytes, nothing_read, tables_of}
@@ -144,6 +143,7 @@ of_tables r told before now photos bytes room given text h e t b said = by_statu
   where
     whole : (g : Status) → IsSceneAnswer (tables_of h.reads) room g text → IsOfTables r bytes room g text
     whole g s = record { reads = h.reads; all = h.size; read = rw (← e) h.read; taken = rw (← t) (h.taken bytes b); said = s }
+
     by_status : (g : Status) → IsSceneAnswer (tables_of h.reads) room g text → IsReportAnswer r bytes room g text
     by_status status.Done s = whole status.Done s
     by_status status.Refused s = inr (whole status.Refused s)

@@ -1,5 +1,5 @@
 -- What a run may answer to `report` of an accepted room: which text goes with which status, and what was the cause.
-use Rattle.std.specs.Prelude.{ℕ, ◌≡◌, ◌≢◌, ◌⊎◌, List, [], ◌++◌, length, codes, decimal, Option, Some}
+use Rattle.std.specs.Prelude.{ℕ, ◌≡◌, ◌≢◌, ◌⊎◌, List, [], ◌++◌, length, codes, decimal, Some}
 use Rattle.decimal_text.specs.Decimals.{thousandths}
 use Rattle.decimal_text.specs.Lines.{line}
 use Rattle.grid_report.specs.Headline.{IsRight}

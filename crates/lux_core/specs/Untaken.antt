@@ -1,5 +1,5 @@
 -- A file that isn't taken from the shelf: what is written of it, and what was the cause.
-use Rattle.std.specs.Prelude.{ℕ, ◌≡◌, ◌≢◌, ◌+◌, ◌<◌, ◌⊎◌, List, ◌++◌, length, codes, Option, None, IfSome, IsSomeAnd}
+use Rattle.std.specs.Prelude.{ℕ, ◌≡◌, ◌≢◌, ◌+◌, ◌<◌, ◌⊎◌, List, ◌++◌, length, codes, None, IfSome, IsSomeAnd}
 use Rattle.decimal_text.specs.Lines.{line}
 use Rattle.lux_io.specs.Files.{bytes_of, Rose}
 use Rattle.lux_io.specs.declared.take.TakeFault.{TakeFault}

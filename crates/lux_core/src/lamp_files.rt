@@ -37,7 +37,11 @@ fn table_of_bytes(alloc: Global, file: &FileUse, bytes: &[u8]) -> Result<PhotoTa
 }
 
 /// The table of a lamp's file on the shelf.
-fn read_lamp_file<S: Shelf>(alloc: Global, file: &FileUse, shelf: &mut S) -> Result<PhotoTable, Halt>
+fn read_lamp_file<S: Shelf>(
+    alloc: Global,
+    file: &FileUse,
+    shelf: &mut S,
+) -> Result<PhotoTable, Halt>
     requires file { IsFileUse file.now }
     ensures files { S.files shelf.new ≡ S.files shelf.old }
     ensures read { IfOk result (λ p. (read : LampFile) × WasRead (S.files shelf.old) file.now read × IsRoundedOf p read.table × (S.taken shelf.new ≡ length read.bytes)) }
@@ -57,7 +61,11 @@ fn read_lamp_file<S: Shelf>(alloc: Global, file: &FileUse, shelf: &mut S) -> Res
 }
 
 /// The tables of the files of a room's lamps, each read once, in order, up to the first that stands in the way.
-pub fn read_lamp_files<S: Shelf>(alloc: Global, files: &[FileUse], shelf: &mut S) -> Result<Vec<PhotoTable>, Halt>
+pub fn read_lamp_files<S: Shelf>(
+    alloc: Global,
+    files: &[FileUse],
+    shelf: &mut S,
+) -> Result<Vec<PhotoTable>, Halt>
     requires { All IsFileUse files.now }
     ensures files { S.files shelf.new ≡ S.files shelf.old }
     ensures read { IfOk result (λ ps. HasRead (S.files shelf.old) files.now (S.taken shelf.old) (S.taken shelf.new) (length files.now) ps.items) }

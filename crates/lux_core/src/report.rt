@@ -8,10 +8,10 @@ ghost use Rattle.interval_system.specs.System.{IsFirstHeavy, NoneHeavy};
 ghost use Rattle.radiosity_solve.specs.Bounds.{IsInOrder, IsLowerAnswer, IsUpperAnswer};
 ghost use Rattle.photo_table.specs.Table.{Table};
 ghost use Rattle.room_layout.specs.Accepted.{IsAccepted};
-ghost use Rattle.scene_system.specs.Assembled.{numbers, IsSceneOf, IsWellFormed};
+ghost use Rattle.scene_system.specs.Assembled.{numbers, HasWeightsOf, IsSceneOf, IsWellFormed};
 ghost use Rattle.scene_system.specs.Causes.{IsWithinLimits};
 ghost use Rattle.scene_system.specs.RowSums.{in_thousandths};
-ghost use Rattle.scene_system.specs.Tables.{AreTablesOf};
+ghost use Rattle.scene_system.specs.Tables.{AreExactTables, AreTablesOf};
 ghost use Rattle.lux_core.specs.ReportAnswers.{IsReportAnswer, IsSceneAnswer, scene_fault_text};
 ghost use Rattle.lux_core.specs.Runs.{run};
 
@@ -78,7 +78,7 @@ fn text_of_report(
     requires lower { IsLowerAnswer scene.now.system bounds.now.lower.items }
     requires upper { IsUpperAnswer scene.now.system bounds.now.upper.items }
     requires in_order { IsInOrder scene.now.system bounds.now.lower.items bounds.now.upper.items }
-    ensures { (tables : List Table) → IsSceneOf tables room.now (numbers scene.now) → IfOk result (λ s. (r : Report) × IsRight tables room.now r × (string_bytes s ≡ report_text r)) }
+    ensures { (tables : List Table) → AreExactTables room.now tables → IsSceneOf tables room.now (numbers scene.now) → IfOk result (λ s. (r : Report) × IsRight tables room.now r × (string_bytes s ≡ report_text r)) }
 {
     values_are_points();
     report_is_right();
@@ -91,7 +91,8 @@ fn text_of_report(
 fn reply_of_scene(alloc: Global, room: &Room, scene: &Scene) -> Result<Reply, Memory>
     requires accepted { IsAccepted room.now }
     requires formed { IsWellFormed (numbers scene.now) }
-    ensures { (tables : List Table) → IsWithinLimits tables room.now → IsSceneOf tables room.now (numbers scene.now) → IfOk result (λ r. IsSceneAnswer tables room.now r.status (string_bytes r.text)) }
+    requires weights { HasWeightsOf room.now (numbers scene.now) }
+    ensures { (tables : List Table) → AreExactTables room.now tables → IsWithinLimits tables room.now → IsSceneOf tables room.now (numbers scene.now) → IfOk result (λ r. IsSceneAnswer tables room.now r.status (string_bytes r.text)) }
 {
     heavy_has_cause();
     none_is_shown_heavy();
@@ -131,11 +132,7 @@ fn reply_by_tables(alloc: Global, room: &Room, photos: &[PhotoTable]) -> Result<
 }
 
 /// The report of a room, or why it has none. The files of its lamps are read first, each once, in order.
-pub fn reply_of_report<S: Shelf>(
-    alloc: Global,
-    room: &Room,
-    shelf: &mut S,
-) -> Result<Reply, Memory>
+pub fn reply_of_report<S: Shelf>(alloc: Global, room: &Room, shelf: &mut S) -> Result<Reply, Memory>
     requires accepted { IsAccepted room.now }
     ensures files { S.files shelf.new ≡ S.files shelf.old }
     ensures answered { IfOk result (λ r. (bytes : List ℕ) → S.taken shelf.old ≡ length bytes → IsReportAnswer (run (S.files shelf.old) (S.absences shelf.old) (S.absences shelf.new) (S.faults shelf.old) (S.faults shelf.new) (S.taken shelf.new)) bytes room.now r.status (string_bytes r.text)) }
