@@ -6,6 +6,7 @@ mod body;
 mod fault;
 mod head;
 mod items;
+pub mod laws;
 mod line;
 mod stored;
 mod values;

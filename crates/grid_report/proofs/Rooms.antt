@@ -13,6 +13,7 @@ use Rattle.fx_base.proofs.Rounding.{natural-mono}
 use Rattle.interval_system.specs.Radiosity.{Light, IsLightOf, values}
 use Rattle.interval_system.specs.Values.{average, uniformity}
 use Rattle.room_layout.specs.declared.room.Room.{Room}
+use Rattle.photo_table.specs.Table.{Table}
 use Rattle.scene_system.specs.Scene.{task_point_of, radiosity, loose_radiosity}
 use Rattle.grid_report.specs.Headline.{least_end, IsInOrder, Fits, MeetsValues, IsNarrow, IsRight}
 use Rattle.grid_report.specs.RoomValues.{ForExactValues, ForLooseValues}
@@ -29,29 +30,29 @@ use Rattle.grid_report.proofs.Shares.{IsDown, IsUp, is_down, is_up, down_by_ends
 
 -- ---- the values of a room, as those of a grid
 
-covered_points : (room : Room) (vs : List PointValue) → ArePoints room vs → AreCoveredBy vs (λ g. (task_point_of room g).covered)
-covered_points room vs are = λ g d l. (are.each g d l).covered_is
+covered_points : (tables : List Table) (room : Room) (vs : List PointValue) → ArePoints tables room vs → AreCoveredBy vs (λ g. (task_point_of room g).covered)
+covered_points tables room vs are = λ g d l. (are.each g d l).covered_is
 
-each_value : (room : Room) (vs : List PointValue) → ArePoints room vs → (g : ℕ) (d : PointValue) → g < length vs → IsValue (slice_index_or vs g d)
-each_value room vs are g d l = let v = are.each g d l in record { low = v.low; order = v.order; high = v.high }
+each_value : (tables : List Table) (room : Room) (vs : List PointValue) → ArePoints tables room vs → (g : ℕ) (d : PointValue) → g < length vs → IsValue (slice_index_or vs g d)
+each_value tables room vs are g d l = let v = are.each g d l in record { low = v.low; order = v.order; high = v.high }
 
-meeting : (room : Room) (vs : List PointValue) (n : ℕ) (light : Light) → 2 ≤ n → IsLightOf (radiosity n room).patches light → ArePoints room vs
-    → AreMeeting (values (radiosity n room) light) vs
+meeting : (tables : List Table) (room : Room) (vs : List PointValue) (n : ℕ) (light : Light) → 2 ≤ n → IsLightOf (radiosity n tables room).patches light → ArePoints tables room vs
+    → AreMeeting (values (radiosity n tables room) light) vs
 unfolding values
-meeting room vs n light deep solves are = record {
+meeting tables room vs n light deep solves are = record {
   count = sym are.count;
-  covered = covered_points room vs are;
+  covered = covered_points tables room vs are;
   meets = λ g d l o. (are.each g d l).meets ((are.each g d l).covered_is ∙ o) n deep light solves;
   order = λ g l. are.order g l n deep light solves;
 }
 
-near : (room : Room) (vs : List PointValue) (n : ℕ) (light : Light) → 2 ≤ n → IsLightOf (loose_radiosity n room).patches light → ArePoints room vs
-    → AreNear 2048 (values (loose_radiosity n room) light) vs
+near : (tables : List Table) (room : Room) (vs : List PointValue) (n : ℕ) (light : Light) → 2 ≤ n → IsLightOf (loose_radiosity n tables room).patches light → ArePoints tables room vs
+    → AreNear 2048 (values (loose_radiosity n tables room) light) vs
 unfolding values
-near room vs n light deep solves are = record {
+near tables room vs n light deep solves are = record {
   few = omega arith;
   count = sym are.count;
-  covered = covered_points room vs are;
+  covered = covered_points tables room vs are;
   near = λ g d l o. (are.each g d l).near ((are.each g d l).covered_is ∙ o) n deep light solves;
   order = λ g l. are.loose_order g l n deep light solves;
 }
@@ -98,22 +99,22 @@ length-map (v ∷ vs) = ap suc (length-map vs)
 
 -- ---- the parts of the promise
 
-points_meet : (room : Room) (vs : List PointValue) → ArePoints room vs → (g : ℕ)
-    → IfSome (slice_index_or (map printed_value vs) g None) (λ e. ForExactValues room (λ x. Meets (said 100 e) (x.value g)))
-points_meet room vs are g =
-    let P : Option Printed → Type 0 = λ o. IfSome o (λ e. ForExactValues room (λ x. Meets (said 100 e) (x.value g))) in
+points_meet : (tables : List Table) (room : Room) (vs : List PointValue) → ArePoints tables room vs → (g : ℕ)
+    → IfSome (slice_index_or (map printed_value vs) g None) (λ e. ForExactValues tables room (λ x. Meets (said 100 e) (x.value g)))
+points_meet tables room vs are g =
+    let P : Option Printed → Type 0 = λ o. IfSome o (λ e. ForExactValues tables room (λ x. Meets (said 100 e) (x.value g))) in
     let v = slice_index_or vs g no_point in
     each_printed P vs g tt (λ l. by_cover P v.covered (in_cents (natural v.value.lo) (natural v.value.hi)) tt
-    (λ o n deep light solves. printed_meets (natural v.value.lo) (natural v.value.hi) ((values (radiosity n room) light).value g) ((are.each g no_point l).meets o n deep light solves)))
+    (λ o n deep light solves. printed_meets (natural v.value.lo) (natural v.value.hi) ((values (radiosity n tables room) light).value g) ((are.each g no_point l).meets o n deep light solves)))
 
-points_near : (room : Room) (vs : List PointValue) → ArePoints room vs → (g : ℕ)
-    → IfSome (slice_index_or (map printed_value vs) g None) (λ e. ForLooseValues room (λ x. LiesIn (said 100 e) (outward (ratio 12 1000) (x.value g))))
-points_near room vs are g =
-    let P : Option Printed → Type 0 = λ o. IfSome o (λ e. ForLooseValues room (λ x. LiesIn (said 100 e) (outward (ratio 12 1000) (x.value g)))) in
+points_near : (tables : List Table) (room : Room) (vs : List PointValue) → ArePoints tables room vs → (g : ℕ)
+    → IfSome (slice_index_or (map printed_value vs) g None) (λ e. ForLooseValues tables room (λ x. LiesIn (said 100 e) (outward (ratio 12 1000) (x.value g))))
+points_near tables room vs are g =
+    let P : Option Printed → Type 0 = λ o. IfSome o (λ e. ForLooseValues tables room (λ x. LiesIn (said 100 e) (outward (ratio 12 1000) (x.value g)))) in
     let v = slice_index_or vs g no_point in
     each_printed P vs g tt (λ l. by_cover P v.covered (in_cents (natural v.value.lo) (natural v.value.hi)) tt
     (λ o n deep light solves. let k = (are.each g no_point l).near o n deep light solves in
-    let x = (values (loose_radiosity n room) light).value g in
+    let x = (values (loose_radiosity n tables room) light).value g in
     printed_near 2048 (natural v.value.lo) (natural v.value.hi) x (omega arith) (sub_back_f x.lo (ticks 2048) k.lower) k.upper))
 
 -- a printed uniformity is of the least ends and the average's ends
@@ -130,11 +131,11 @@ record IsShare (vs : List PointValue) (e : Printed) : Type 0 where
   pub positive : 0 < average_low vs
   pub order : average_low vs ≤ average_high vs
 
-shares_of : (room : Room) (vs : List PointValue) (e : Printed) → ArePoints room vs → 0 < open_total vs → IsPrintedUniformity vs e → IsShare vs e
-shares_of room vs e are some printed =
+shares_of : (tables : List Table) (room : Room) (vs : List PointValue) (e : Printed) → ArePoints tables room vs → 0 < open_total vs → IsPrintedUniformity vs e → IsShare vs e
+shares_of tables room vs e are some printed =
     let u = printed.1 in
     let covered : ℕ → Bool = λ g. (task_point_of room g).covered in
-    let order = averages_order vs covered (covered_points room vs are) some (each_value room vs are) in
+    let order = averages_order vs covered (covered_points tables room vs are) some (each_value tables room vs are) in
     let positive = u.positive in
     let D : ℕ → Type 0 = λ z. IsDown u.least_low (average_high vs) z in
     let U : ℕ → Type 0 = λ z. IsUp u.least_high (average_low vs) z in
@@ -144,7 +145,7 @@ shares_of room vs e are some printed =
       least_low = u.is_least_low;
       least_high = u.is_least_high;
       down = subst D (sym (ap (λ (d : Printed). d.lo) (printed.2) ∙ ap (λ (z : ℕ). z / 1000) u.lower)) (is_down u.least_low (average_high vs) (omega (arith, order, positive))
-          (least_within_average vs covered u.least_low (covered_points room vs are) some u.is_least_low (each_value room vs are)));
+          (least_within_average vs covered u.least_low (covered_points tables room vs are) some u.is_least_low (each_value tables room vs are)));
       up = subst U (sym (ap (λ (d : Printed). d.hi) (printed.2) ∙ ap (λ (z : ℕ). div_ceil z 1000) u.upper)) (is_up u.least_high (average_low vs) positive);
       positive = positive;
       order = order;
@@ -263,8 +264,8 @@ cents_order low high h = omega (arith, div-mul-le_self (low * 100) 68719476736, 
 positive_cents : (high : ℕ) → 0 < high → 0 < div_ceil (high * 100) 68719476736
 positive_cents high h = omega (arith, (div_ceil_times (high * 100) 68719476736 (omega arith)).0, h)
 
-points_order : (room : Room) (vs : List PointValue) → ArePoints room vs → (g : ℕ) → IfSome (slice_index_or (map printed_value vs) g None) IsInOrder
-points_order room vs are g =
+points_order : (tables : List Table) (room : Room) (vs : List PointValue) → ArePoints tables room vs → (g : ℕ) → IfSome (slice_index_or (map printed_value vs) g None) IsInOrder
+points_order tables room vs are g =
     let P : Option Printed → Type 0 = λ o. IfSome o IsInOrder in
     let v = slice_index_or vs g no_point in
     each_printed P vs g tt (λ l. let p = are.each g no_point l in by_cover P v.covered (in_cents (natural v.value.lo) (natural v.value.hi)) tt
@@ -293,34 +294,34 @@ printed_order vs e each s = elim s.up.over [
 
 -- ---- the whole promise
 
-fits : (room : Room) (vs : List PointValue) (r : Report) → ArePoints room vs → 0 < open_total vs → IsReportOf room.task.nx vs r → Fits room r
-fits room vs r are some of = record {
+fits : (tables : List Table) (room : Room) (vs : List PointValue) (r : Report) → ArePoints tables room vs → 0 < open_total vs → IsReportOf room.task.nx vs r → Fits room r
+fits tables room vs r are some of = record {
   columns = of.columns_are;
   points = rw of.points_are (length-map vs ∙ are.count);
   covered = rw of.points_are (λ g l. let h : g < length vs = omega (arith, l, length-map vs) in
       let v = slice_index_or vs g no_point in
       rw (printed_within vs g h) (none_where_covered v.covered (task_point_of room g).covered (in_cents (natural v.value.lo) (natural v.value.hi)) (are.each g no_point h).covered_is));
-  points_in_order = λ g. rw of.points_are (points_order room vs are g);
+  points_in_order = λ g. rw of.points_are (points_order tables room vs are g);
   average_in_order = rw of.average_is (cents_order (average_low vs) (average_high vs)
-      (averages_order vs (λ g. (task_point_of room g).covered) (covered_points room vs are) some (each_value room vs are)));
+      (averages_order vs (λ g. (task_point_of room g).covered) (covered_points tables room vs are) some (each_value tables room vs are)));
   uniformity_in_order = some_case r.uniformity (average_low vs ≡ 0) (IsPrintedUniformity vs) IsInOrder of.uniformity_is
-      (λ e i. printed_order vs e (each_value room vs are) (shares_of room vs e are some i));
+      (λ e i. printed_order vs e (each_value tables room vs are) (shares_of tables room vs e are some i));
 }
 
-meets : (room : Room) (vs : List PointValue) (r : Report) → ArePoints room vs → 0 < open_total vs → IsReportOf room.task.nx vs r → MeetsValues room r
-meets room vs r are some of = record {
-  each_point = λ g. rw of.points_are (points_meet room vs are g);
-  the_average = λ n h light solves. rw of.average_is (printed_meets (average_low vs) (average_high vs) (average (values (radiosity n room) light))
-      (average_meets (values (radiosity n room) light) vs (meeting room vs n light h solves are) some));
-  the_uniformity = some_case r.uniformity (average_low vs ≡ 0) (IsPrintedUniformity vs) (λ e. ForExactValues room (λ x. Meets (said 1000 e) (uniformity x))) of.uniformity_is
-      (λ e i n h light solves. let s = shares_of room vs e are some i in record {
-        above = down_uniformity (values (radiosity n room) light) vs s.a e.lo (meeting room vs n light h solves are) some s.least_low s.down;
-        below = up_uniformity (values (radiosity n room) light) vs s.b e.hi (meeting room vs n light h solves are) some s.positive s.least_high s.up;
+meets : (tables : List Table) (room : Room) (vs : List PointValue) (r : Report) → ArePoints tables room vs → 0 < open_total vs → IsReportOf room.task.nx vs r → MeetsValues tables room r
+meets tables room vs r are some of = record {
+  each_point = λ g. rw of.points_are (points_meet tables room vs are g);
+  the_average = λ n h light solves. rw of.average_is (printed_meets (average_low vs) (average_high vs) (average (values (radiosity n tables room) light))
+      (average_meets (values (radiosity n tables room) light) vs (meeting tables room vs n light h solves are) some));
+  the_uniformity = some_case r.uniformity (average_low vs ≡ 0) (IsPrintedUniformity vs) (λ e. ForExactValues tables room (λ x. Meets (said 1000 e) (uniformity x))) of.uniformity_is
+      (λ e i n h light solves. let s = shares_of tables room vs e are some i in record {
+        above = down_uniformity (values (radiosity n tables room) light) vs s.a e.lo (meeting tables room vs n light h solves are) some s.least_low s.down;
+        below = up_uniformity (values (radiosity n tables room) light) vs s.b e.hi (meeting tables room vs n light h solves are) some s.positive s.least_high s.up;
       });
-  positive = some_case r.uniformity (average_low vs ≡ 0) (IsPrintedUniformity vs) (λ e. ForExactValues room (λ x. whole 0 <ᶠ (average x).hi)) of.uniformity_is
-      (λ e i n h light solves. positive_average (values (radiosity n room) light) vs (meeting room vs n light h solves are) some (i.1).positive);
+  positive = some_case r.uniformity (average_low vs ≡ 0) (IsPrintedUniformity vs) (λ e. ForExactValues tables room (λ x. whole 0 <ᶠ (average x).hi)) of.uniformity_is
+      (λ e i n h light solves. positive_average (values (radiosity n tables room) light) vs (meeting tables room vs n light h solves are) some (i.1).positive);
   printed_positive = some_case r.uniformity (average_low vs ≡ 0) (IsPrintedUniformity vs) (λ e. 0 < r.average.hi) of.uniformity_is
-      (λ e i. let s = shares_of room vs e are some i in rw of.average_is (positive_cents (average_high vs) (let o = s.order in let p = s.positive in omega arith)));
+      (λ e i. let s = shares_of tables room vs e are some i in rw of.average_is (positive_cents (average_high vs) (let o = s.order in let p = s.positive in omega arith)));
   none = none_case r.uniformity (average_low vs ≡ 0) (r.average.lo ≡ 0) (IsPrintedUniformity vs) of.uniformity_is (λ z. rw (of.average_is, z) refl);
 }
 
@@ -334,34 +335,34 @@ few_ticks : (t : ℕ) → t ≡ 0 → (ticks t +ᶠ ticks 2049) <ᶠ half_power 
 unfolding ticks half_power ◌+ᶠ◌
 few_ticks t e = rw e (record { cross = omega arith })
 
-narrow : (room : Room) (vs : List PointValue) (r : Report) → ArePoints room vs → 0 < open_total vs → IsReportOf room.task.nx vs r → IsNarrow room r
-narrow room vs r are some of = record {
-  each_point = λ g. rw of.points_are (points_near room vs are g);
-  the_average = λ n h light solves. rw of.average_is (printed_near 2049 (average_low vs) (average_high vs) (average (values (loose_radiosity n room) light)) (omega arith)
-      (average_near_low 2048 (values (loose_radiosity n room) light) vs (near room vs n light h solves are) some)
-      (average_near_high 2048 (values (loose_radiosity n room) light) vs (near room vs n light h solves are) some));
-  none = none_case r.uniformity (average_low vs ≡ 0) (ForLooseValues room (λ x. (average x).lo <ᶠ half_power 20)) (IsPrintedUniformity vs) of.uniformity_is
-      (λ z n h light solves. le_lt_trans_f (average_near_low 2048 (values (loose_radiosity n room) light) vs (near room vs n light h solves are) some) (few_ticks (average_low vs) z));
+narrow : (tables : List Table) (room : Room) (vs : List PointValue) (r : Report) → ArePoints tables room vs → 0 < open_total vs → IsReportOf room.task.nx vs r → IsNarrow tables room r
+narrow tables room vs r are some of = record {
+  each_point = λ g. rw of.points_are (points_near tables room vs are g);
+  the_average = λ n h light solves. rw of.average_is (printed_near 2049 (average_low vs) (average_high vs) (average (values (loose_radiosity n tables room) light)) (omega arith)
+      (average_near_low 2048 (values (loose_radiosity n tables room) light) vs (near tables room vs n light h solves are) some)
+      (average_near_high 2048 (values (loose_radiosity n tables room) light) vs (near tables room vs n light h solves are) some));
+  none = none_case r.uniformity (average_low vs ≡ 0) (ForLooseValues tables room (λ x. (average x).lo <ᶠ half_power 20)) (IsPrintedUniformity vs) of.uniformity_is
+      (λ z n h light solves. le_lt_trans_f (average_near_low 2048 (values (loose_radiosity n tables room) light) vs (near tables room vs n light h solves are) some) (few_ticks (average_low vs) z));
   the_uniformity = some_case r.uniformity (average_low vs ≡ 0) (IsPrintedUniformity vs)
-      (λ e. ForLooseValues room (λ x. whole 1 ≤ᶠ (average x).lo → LiesIn (said 1000 e) (outward (ratio 2 1000) (uniformity x)))) of.uniformity_is
-      (λ e i n h light solves one. let s = shares_of room vs e are some i in record {
-        lower = down_uniformity_near 2048 (values (loose_radiosity n room) light) vs s.a e.lo (near room vs n light h solves are) some s.order s.least_low s.down one;
-        upper = up_uniformity_near 2048 (values (loose_radiosity n room) light) vs s.b e.hi (near room vs n light h solves are) some s.least_high s.up one;
+      (λ e. ForLooseValues tables room (λ x. whole 1 ≤ᶠ (average x).lo → LiesIn (said 1000 e) (outward (ratio 2 1000) (uniformity x)))) of.uniformity_is
+      (λ e i n h light solves one. let s = shares_of tables room vs e are some i in record {
+        lower = down_uniformity_near 2048 (values (loose_radiosity n tables room) light) vs s.a e.lo (near tables room vs n light h solves are) some s.order s.least_low s.down one;
+        upper = up_uniformity_near 2048 (values (loose_radiosity n tables room) light) vs s.b e.hi (near tables room vs n light h solves are) some s.least_high s.up one;
       });
   at_most_one = some_case r.uniformity (average_low vs ≡ 0) (IsPrintedUniformity vs) (λ e. e.hi ≤ 1000) of.uniformity_is
-      (λ e i. (shares_of room vs e are some i).up.most);
+      (λ e i. (shares_of tables room vs e are some i).up.most);
   lower_by_ends = some_case r.uniformity (average_low vs ≡ 0) (IsPrintedUniformity vs)
       (λ e. IfSome (least_end (λ (d : Printed). d.lo) r.points) (λ low. ratio low r.average.hi ≤ᶠ (ratio e.lo 1000 +ᶠ ratio 1 1000))) of.uniformity_is
-      (λ e i. let s = shares_of room vs e are some i in
+      (λ e i. let s = shares_of tables room vs e are some i in
       rw (of.points_are, of.average_is) (if_some (least_end (λ (d : Printed). d.lo) (map printed_value vs)) (λ low. ratio low (div_ceil (average_high vs * 100) 68719476736) ≤ᶠ (ratio e.lo 1000 +ᶠ ratio 1 1000))
       (λ low h. lower_ends vs s.a e.lo low s.least_low s.down s.positive s.order h)));
   upper_by_ends = some_case r.uniformity (average_low vs ≡ 0) (IsPrintedUniformity vs)
       (λ e. IfSome (least_end (λ (d : Printed). d.hi) r.points) (λ high. 0 < r.average.lo → ratio e.hi 1000 ≤ᶠ (ratio high r.average.lo +ᶠ ratio 1 1000))) of.uniformity_is
-      (λ e i. let s = shares_of room vs e are some i in
+      (λ e i. let s = shares_of tables room vs e are some i in
       rw (of.points_are, of.average_is) (if_some (least_end (λ (d : Printed). d.hi) (map printed_value vs)) (λ high. 0 < average_low vs * 100 / 68719476736 → ratio e.hi 1000 ≤ᶠ (ratio high (average_low vs * 100 / 68719476736) +ᶠ ratio 1 1000))
       (λ high h p. up_by_ends s.b (average_low vs) e.hi high (average_low vs * 100 / 68719476736) s.up
       (least_high_printed vs s.b high s.least_high h) (div-mul-le_self (average_low vs * 100) 68719476736) p)));
 }
 
-pub is_right : (room : Room) (vs : List PointValue) (r : Report) → ArePoints room vs → 0 < open_total vs → IsReportOf room.task.nx vs r → IsRight room r
-is_right room vs r are some of = record { fits = fits room vs r are some of; one_solution = record { exact = are.rows; loose = are.loose_rows }; meets = meets room vs r are some of; narrow = narrow room vs r are some of }
+pub is_right : (tables : List Table) (room : Room) (vs : List PointValue) (r : Report) → ArePoints tables room vs → 0 < open_total vs → IsReportOf room.task.nx vs r → IsRight tables room r
+is_right tables room vs r are some of = record { fits = fits tables room vs r are some of; one_solution = record { exact = are.rows; loose = are.loose_rows }; meets = meets tables room vs r are some of; narrow = narrow tables room vs r are some of }

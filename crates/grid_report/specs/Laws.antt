@@ -7,7 +7,9 @@ use Rattle.interval_system.specs.Values.{Grid, open_count, average, uniformity}
 use Rattle.radiosity_solve.specs.Bounds.{IsLowerAnswer, IsUpperAnswer, IsInOrder}
 use Rattle.room_layout.specs.Accepted.{IsAccepted}
 use Rattle.room_layout.specs.declared.room.Room.{Room}
+use Rattle.photo_table.specs.Table.{Table}
 use Rattle.scene_system.specs.Assembled.{Numbers, IsSceneOf, IsWellFormed}
+use Rattle.scene_system.specs.Tables.{AreExactTables}
 use Rattle.grid_report.specs.Headline.{IsRight}
 use Rattle.grid_report.specs.PointValues.{AreValuesOf, ArePoints}
 use Rattle.grid_report.specs.Printed.{Report}
@@ -18,13 +20,13 @@ use Rattle.grid_report.specs.declared.value.PointValue.{PointValue}
 -- the values of a scene of a room, with bounds of the light of its patches, are those of the room: they meet the exact values at each
 -- depth from 2, and are near the loose ones
 abbrev pub ValuesArePoints : Type 0
-ValuesArePoints = (room : Room) (s : Numbers) (lower upper : List Tick) (values : List PointValue) → IsAccepted room → IsWellFormed s → IsSceneOf room s
+ValuesArePoints = (tables : List Table) (room : Room) (s : Numbers) (lower upper : List Tick) (values : List PointValue) → IsAccepted room → AreExactTables room tables → IsWellFormed s → IsSceneOf tables room s
     → NoneHeavy s.system.rows → IsLowerAnswer s.system lower → IsUpperAnswer s.system upper → IsInOrder s.system lower upper
-    → AreValuesOf s lower upper values → ArePoints room values
+    → AreValuesOf s lower upper values → ArePoints tables room values
 
 -- the report of such values is right
 abbrev pub ReportIsRight : Type 0
-ReportIsRight = (room : Room) (values : List PointValue) (r : Report) → ArePoints room values → 0 < open_total values → IsReportOf room.task.nx values r → IsRight room r
+ReportIsRight = (tables : List Table) (room : Room) (values : List PointValue) (r : Report) → ArePoints tables room values → 0 < open_total values → IsReportOf room.task.nx values r → IsRight tables room r
 
 -- where the values at the points that aren't covered are in order, and there is one, the average and the uniformity are
 abbrev pub AverageIsInOrder : Type 0

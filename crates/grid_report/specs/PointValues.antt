@@ -9,6 +9,7 @@ use Rattle.interval_system.specs.Whole.{total}
 use Rattle.interval_system.specs.Ticks.{tick_at}
 use Rattle.fx_base.specs.Rounded.{down_to, up_to}
 use Rattle.room_layout.specs.declared.room.Room.{Room}
+use Rattle.photo_table.specs.Table.{Table}
 use Rattle.scene_system.specs.Assembled.{Numbers, point_weight, point_light}
 use Rattle.scene_system.specs.Scene.{task_point_of, no_task_point, radiosity, loose_radiosity}
 use Rattle.grid_report.specs.RoomValues.{ForExactValues, ForLooseValues}
@@ -40,19 +41,19 @@ abbrev pub most_rounding : Rattle.fx_base.specs.Fraction.Fraction
 most_rounding = ticks 2048
 
 -- the value at point g: it meets the exact value at each depth from 2, and lies near the loose one there
-pub record IsPoint (room : Room) (g : ℕ) (v : PointValue) : Type 0 where
+pub record IsPoint (tables : List Table) (room : Room) (g : ℕ) (v : PointValue) : Type 0 where
   pub covered_is : v.covered ≡ (task_point_of room g).covered
-  pub meets : v.covered ≡ false → ForExactValues room (λ x. Meets (of_span v.value) (x.value g))
-  pub near : v.covered ≡ false → ForLooseValues room (λ x. LiesIn (of_span v.value) (outward most_rounding (x.value g)))
+  pub meets : v.covered ≡ false → ForExactValues tables room (λ x. Meets (of_span v.value) (x.value g))
+  pub near : v.covered ≡ false → ForLooseValues tables room (λ x. LiesIn (of_span v.value) (outward most_rounding (x.value g)))
   pub low : pos 0 ≤ℤ v.value.lo
   pub order : v.value.lo ≤ℤ v.value.hi
   pub high : natural v.value.hi ≤ 2 ^ 102
 
 -- the values at all points of a room, whose equations have one solution at each depth from 2, exact and loose
-pub record ArePoints (room : Room) (values : List PointValue) : Type 0 where
+pub record ArePoints (tables : List Table) (room : Room) (values : List PointValue) : Type 0 where
   pub count : length values ≡ room.task.nx * room.task.ny
-  pub each : (g : ℕ) (d : PointValue) → g < length values → IsPoint room g (slice_index_or values g d)
-  pub rows : (n : ℕ) → 2 ≤ n → AreRowsBelowOne (radiosity n room).patches
-  pub loose_rows : (n : ℕ) → 2 ≤ n → AreRowsBelowOne (loose_radiosity n room).patches
-  pub order : (g : ℕ) → g < length values → ForExactValues room (λ x. InOrder (x.value g))
-  pub loose_order : (g : ℕ) → g < length values → ForLooseValues room (λ x. InOrder (x.value g))
+  pub each : (g : ℕ) (d : PointValue) → g < length values → IsPoint tables room g (slice_index_or values g d)
+  pub rows : (n : ℕ) → 2 ≤ n → AreRowsBelowOne (radiosity n tables room).patches
+  pub loose_rows : (n : ℕ) → 2 ≤ n → AreRowsBelowOne (loose_radiosity n tables room).patches
+  pub order : (g : ℕ) → g < length values → ForExactValues tables room (λ x. InOrder (x.value g))
+  pub loose_order : (g : ℕ) → g < length values → ForLooseValues tables room (λ x. InOrder (x.value g))

@@ -1,8 +1,9 @@
 -- A document without the keys that aren't served yet gives what they have where they aren't given.
-use Rattle.std.proofs.Common.{◌≡◌, ℕ, ◌+◌, ◌||◌, Bool, true, false, nat_le, cond, List, [], ◌∷◌, length, All, Option, Some, None, is_some, option_map, Result, Ok, Err, codes, refl, ap, subst, sym, ◌∙◌}
+use Rattle.std.proofs.Common.{◌≡◌, ℕ, ◌+◌, ◌||◌, Bool, true, false, nat_le, List, [], ◌∷◌, length, All, Option, Some, None, is_some, option_map, Result, Ok, codes, refl, ap, subst, sym}
 use Rattle.std.specs.List.{list_any}
 use Rattle.std.specs.Option.{option_map_or}
-use Rattle.toml.specs.Data.{Data, Items, Members, get_member, as_table, as_array}
+use Rattle.std.proofs.lemmas.List.Elements.{All-nil, All-cons}
+use Rattle.toml.specs.Data.{Data, Items, Members, get_member, as_array}
 use Rattle.room_layout.specs.declared.fault.Key.TheVariants as key
 use Rattle.room_layout.specs.declared.fault.RoomFault.{RoomFault}
 use Rattle.room_layout.specs.declared.fault.RoomFault.TheVariants as fault
@@ -14,13 +15,14 @@ use Rattle.room_layout.specs.declared.room.Shine.TheVariants.{Even}
 use Rattle.room_layout.specs.declared.room.FileUse.{FileUse}
 use Rattle.room_layout.specs.declared.room.Limits.{Limits}
 use Rattle.room_layout.specs.declared.room.Room.{Room}
+use Rattle.room_layout.specs.declared.parts.Fitting.{Fitting}
 use Rattle.room_layout.specs.declared.parts.Lit.{Lit}
-use Rattle.room_layout.specs.Checks.{◌>>=◌, spot, optional, where_given, kind, number, numbers, name_text, array, elements, items_list, has_only, table_with}
+use Rattle.room_layout.specs.Checks.{◌>>=◌, spot, optional, where_given, name_text, array, elements, items_list, table_with}
 use Rattle.room_layout.specs.Served.{unserved_of_document, unserved_of_lamp, has_any, has_any_in, has_any_in_each, is_unserved}
-use Rattle.room_layout.specs.Layout.{lamp_keys, lamp_from, shine_of, lamp_of, lamps_from, lamps_of, limits_in, limits_of, document_of, built_room_of_document, built_room_of}
+use Rattle.room_layout.specs.Layout.{lamp_keys, lamp_from, fitting_from, fitting_of, shine_of, lamp_of, lamps_from, lamps_of, limits_in, limits_of, document_of, built_room_of_document, built_room_of}
 use Rattle.room_layout.specs.Accepted.{IsPlainLamp, IsPlain}
-use Rattle.room_layout.proofs.Ranges.{bind_ok, ok_same}
-use Rattle.room_layout.proofs.AcceptsLamps.{All-none, All-cons, checked_accepted, HasLampParts, lamp_parts, lamp_of_parts}
+use Rattle.room_layout.proofs.Ranges.{bind_ok, ok_same, some_same, cond_ok, kind_ok, table_of}
+use Rattle.room_layout.proofs.AcceptsLamps.{checked_accepted, HasLampParts, source_parts, lamp_parts, lamp_of_parts}
 use Rattle.room_layout.proofs.AcceptsRoom.{room_parts, built_part}
 
 -- ---- keys that aren't given
@@ -44,19 +46,6 @@ lacks_all (k ∷ ks) members e =
     let (first, more) = or_false (is_some (get_member k members)) (has_any ks members) e in (none_from (get_member k members) first, lacks_all ks members more)
 
 -- ---- tables
-
-table_if : (members : Members) (f : RoomFault) (b : Bool) (t : Members) → cond b (Ok members) (Err f) ≡ Ok t → members ≡ t
-table_if members f true t e = ok_same _ t e
-table_if members f false t e = absurd (cc)
-
-kind_ok : {A : Type 0} (s : Spot) (o : Option A) (x : A) → kind s o ≡ Ok x → o ≡ Some x
-kind_ok s None x e = absurd (cc)
-kind_ok s (Some y) x e = ap Some (ok_same y x e)
-
-table_of : (known : List (List ℕ)) (s : Spot) (d : Data) (t : Members) → table_with known s d ≡ Ok t → as_table d ≡ Some t
-table_of known s d t e =
-    let (members, is, e1) = bind_ok (kind s (as_table d)) _ t e in
-    kind_ok s (as_table d) members is ∙ ap Some (table_if members (fault.Unknown s) (has_only known members) t e1)
 
 lacks_in : (keys known : List (List ℕ)) (s : Spot) (d : Data) (t : Members) → table_with known s d ≡ Ok t → has_any_in keys d ≡ false → LacksAll keys t
 lacks_in keys known s d t is without =
@@ -87,33 +76,22 @@ shine_plain i set (Some n) None r none e =
     let same : (Even n, []) ≡ r = ok_same _ r e in
     ((n, sym (ap (λ (x : Shine × List FileUse). x.0) same)), sym (ap (λ (x : Shine × List FileUse). x.1) same))
 
-plain_from : (at : List ℕ) (shine : Shine) (turn maintenance : ℕ) (size split : List ℕ) → ((n : ℕ) × (shine ≡ Even n)) → 0 ≡ turn → 1000 ≡ maintenance → (0 ∷ 0 ∷ []) ≡ size → (1 ∷ 1 ∷ []) ≡ split
-    → IsPlainLamp (lamp_from at shine turn maintenance size split)
-plain_from at shine turn maintenance size split even t m s p =
-    let known_size : IsPlainLamp (lamp_from at shine turn maintenance (0 ∷ 0 ∷ []) (1 ∷ 1 ∷ [])) = record {
-      shine = even;
-      turn = sym t;
-      maintenance = sym m;
-      size_x = refl;
-      size_y = refl;
-      split_x = refl;
-      split_y = refl;
-    } in
-    subst (λ l. IsPlainLamp (lamp_from at shine turn maintenance size l)) p (subst (λ l. IsPlainLamp (lamp_from at shine turn maintenance l (1 ∷ 1 ∷ []))) s known_size)
+plain_from : (at : List ℕ) (shine : Shine) (f : Fitting) → ((n : ℕ) × (shine ≡ Even n)) → fitting_from 0 1000 (0 ∷ 0 ∷ []) (1 ∷ 1 ∷ []) ≡ f → IsPlainLamp (lamp_from at shine f)
+plain_from at shine f even is =
+    subst (λ g. IsPlainLamp (lamp_from at shine g)) is
+    (record { shine = even; turn = refl; maintenance = refl; size_x = refl; size_y = refl; split_x = refl; split_y = refl })
+
+fitting_plain : (i : ℕ) (lamp : Members) (f : Fitting) → LacksAll unserved_of_lamp lamp → fitting_of i lamp ≡ Ok f → fitting_from 0 1000 (0 ∷ 0 ∷ []) (1 ∷ 1 ∷ []) ≡ f
+unfolding fitting_of
+fitting_plain i lamp f lacks e = ok_same _ f (rw (lacks.1.1.0, lacks.1.1.1.0, lacks.1.1.1.1.0, lacks.1.1.1.1.1.0) at e)
 
 parts_plain : (room : Size) (i : ℕ) (d : Data) (r : Lamp × List FileUse) → (p : HasLampParts room i [] d r) → LacksAll unserved_of_lamp p.lamp → IsPlainLamp r.0 × (r.1 ≡ [])
 parts_plain room i d r p lacks =
     let (same, _, _) = checked_accepted room i (lamp_of_parts p) p.lit.1 r p.end_is in
-    let no_file = where_not_given (spot key.LampFile i) name_text (get_member (codes "file") p.lamp) p.file lacks.0 p.file_is in
-    let shine = shine_plain i p.set p.candela p.file p.lit no_file p.lit_is in
-    subst (λ (x : Lamp × List FileUse). IsPlainLamp x.0 × (x.1 ≡ [])) same (
-      plain_from p.at p.lit.0 p.turn p.maintenance p.size p.split shine.0
-          (optional_default 0 (spot key.LampTurn i) (number 0 359) (get_member (codes "turn") p.lamp) p.turn lacks.1.1.0 p.turn_is)
-          (optional_default 1000 (spot key.LampMaintenance i) (number 0 1000) (get_member (codes "maintenance") p.lamp) p.maintenance lacks.1.1.1.0 p.maintenance_is)
-          (optional_default (0 ∷ 0 ∷ []) (spot key.LampSize i) (numbers 2 0 5000) (get_member (codes "size") p.lamp) p.size lacks.1.1.1.1.0 p.size_is)
-          (optional_default (1 ∷ 1 ∷ []) (spot key.LampSplit i) (numbers 2 1 8) (get_member (codes "split") p.lamp) p.split lacks.1.1.1.1.1.0 p.split_is),
-      shine.1,
-    )
+    let source = source_parts i p.lamp p.source p.source_is in
+    let no_file = where_not_given (spot key.LampFile i) name_text (get_member (codes "file") p.lamp) p.source.file lacks.0 source.file in
+    let shine = shine_plain i p.source.set p.source.candela p.source.file p.lit no_file p.lit_is in
+    subst (λ (x : Lamp × List FileUse). IsPlainLamp x.0 × (x.1 ≡ [])) same (plain_from p.at p.lit.0 p.fitting shine.0 (fitting_plain i p.lamp p.fitting lacks p.fitting_is), shine.1)
 
 lamp_plain : (room : Size) (i : ℕ) (d : Data) (r : Lamp × List FileUse) → lamp_of room i [] d ≡ Ok r → has_any_in unserved_of_lamp d ≡ false → IsPlainLamp r.0 × (r.1 ≡ [])
 lamp_plain room i d r e without =
@@ -122,7 +100,7 @@ lamp_plain room i d r e without =
 lamps_plain : (room : Size) (i : ℕ) (ds : List Data) (r : Lit) → lamps_from room i [] ds ≡ Ok r → list_any (has_any_in unserved_of_lamp) ds ≡ false → All IsPlainLamp r.lamps × (r.files ≡ [])
 lamps_plain room i [] r e without =
     let same : record { lamps = []; files = [] } ≡ r = ok_same _ r e in
-    subst (λ (x : Lit). All IsPlainLamp x.lamps × (x.files ≡ [])) same (All-none IsPlainLamp, refl)
+    subst (λ (x : Lit). All IsPlainLamp x.lamps × (x.files ≡ [])) same (All-nil IsPlainLamp, refl)
 lamps_plain room i (d ∷ ds) r e without =
     let (first_without, more_without) = or_false (has_any_in unserved_of_lamp d) (list_any (has_any_in unserved_of_lamp) ds) without in
     let (l, lamp_is, e1) = bind_ok (lamp_of room i [] d) (λ l. lamps_from room (i + 1) l.1 ds >>= λ r. Ok (record { lamps = l.0 ∷ r.lamps; files = r.files })) r e in
@@ -133,22 +111,15 @@ lamps_plain room i (d ∷ ds) r e without =
     let more = lamps_plain room (i + 1) ds rest rest_from_none more_without in
     subst (λ (x : Lit). All IsPlainLamp x.lamps × (x.files ≡ [])) same (All-cons IsPlainLamp l.0 rest.lamps first.0 more.0, more.1)
 
-some_same : {A : Type 0} (x y : A) → Some x ≡ Some y → x ≡ y
-some_same x y e = cc
-
 items_without : (keys : List (List ℕ)) (o : Option Items) (ds : List Data) → option_map items_list o ≡ Some ds → option_map_or (λ items. list_any (has_any_in keys) (items_list items)) o false ≡ false → list_any (has_any_in keys) ds ≡ false
 items_without keys None ds e without = absurd (cc)
 items_without keys (Some items) ds e without = subst (λ l. list_any (has_any_in keys) l ≡ false) (some_same (items_list items) ds e) without
-
-few_same : (ds : List Data) (f : RoomFault) (b : Bool) (es : List Data) → cond b (Ok ds) (Err f) ≡ Ok es → ds ≡ es
-few_same ds f true es e = ok_same _ es e
-few_same ds f false es e = absurd (cc)
 
 elements_without : (keys : List (List ℕ)) (most : ℕ) (s : Spot) (d : Data) (es : List Data) → elements most s d ≡ Ok es → has_any_in_each keys d ≡ false → list_any (has_any_in keys) es ≡ false
 elements_without keys most s d es e without =
     let (ds, is, e1) = bind_ok (array s d) _ es e in
     let found : option_map items_list (as_array d) ≡ Some ds = kind_ok s (option_map items_list (as_array d)) ds is in
-    subst (λ l. list_any (has_any_in keys) l ≡ false) (few_same ds (fault.TooMany s) (nat_le (length ds) most) es e1) (items_without keys (as_array d) ds found without)
+    subst (λ l. list_any (has_any_in keys) l ≡ false) (cond_ok ds (fault.TooMany s) (nat_le (length ds) most) es e1) (items_without keys (as_array d) ds found without)
 
 lamps_given : (o : Option Data) (ds : List Data) → optional [] (spot key.Lamp 0) (elements 256) o ≡ Ok ds → option_map_or (has_any_in_each unserved_of_lamp) o false ≡ false → list_any (has_any_in unserved_of_lamp) ds ≡ false
 lamps_given None ds e without = let same : [] ≡ ds = ok_same _ ds e in subst (λ l. list_any (has_any_in unserved_of_lamp) l ≡ false) same refl

@@ -17,7 +17,7 @@ use Rattle.room_layout.specs.declared.fault.Key.TheVariants as key
 use Rattle.room_layout.specs.declared.geometry.Size.{Size}
 use Rattle.room_layout.specs.declared.room.FileUse.{FileUse}
 use Rattle.room_layout.specs.Checks.{◌>>=◌, demand, each, spot, required, optional, where_given, ranged, kind, number, is_integer, items_list, array, all_numbers, numbers, is_name, name_text, is_among, has_only, table_with, elements}
-use Rattle.room_layout.specs.Layout.{room_keys, version_one, version_of, shell_of, box_keys, block_of, blocks_from, blocks_of, lamp_keys, lamp_of, lamps_from, lamps_of, task_keys, task_of, limits_keys, limits_in, limits_of, document_keys, room_of_document, built_room_of_document}
+use Rattle.room_layout.specs.Layout.{room_keys, version_one, version_of, shell_of, box_keys, block_of, blocks_from, blocks_of, lamp_keys, source_of, fitting_of, lamp_of, lamps_from, lamps_of, task_keys, task_of, limits_keys, limits_in, limits_of, document_keys, room_of_document, built_room_of_document}
 use Rattle.room_layout.specs.Served.{unserved_of_document, unserved_of_lamp, has_any, has_any_in, has_any_in_each, is_unserved}
 use Rattle.room_layout.specs.Laws.{IsReordered, same, arrays, tables, IsReorderedIfGiven, neither, both, AreItemsReordered, none, next, AreReordered, IgnoresOrder}
 
@@ -258,19 +258,31 @@ blocks_of-same room a b r =
 
 -- ---- lamps
 
+source_of-same : (i : ℕ) (a b : Members) → AreReordered a b → source_of i a ≡ source_of i b
+unfolding source_of
+source_of-same i a b at = rw (
+  where_given-same (spot key.LampCandela i) (number 0 10000000) (number-steady 0 10000000 (spot key.LampCandela i)) (at (codes "candela")),
+  where_given-same (spot key.LampFile i) name_text (name_text-steady (spot key.LampFile i)) (at (codes "file")),
+  optional-same 1 (spot key.LampSet i) (number 1 20) (number-steady 1 20 (spot key.LampSet i)) (at (codes "set")),
+)
+
+fitting_of-same : (i : ℕ) (a b : Members) → AreReordered a b → fitting_of i a ≡ fitting_of i b
+unfolding fitting_of
+fitting_of-same i a b at = rw (
+  optional-same 0 (spot key.LampTurn i) (number 0 359) (number-steady 0 359 (spot key.LampTurn i)) (at (codes "turn")),
+  optional-same 1000 (spot key.LampMaintenance i) (number 0 1000) (number-steady 0 1000 (spot key.LampMaintenance i)) (at (codes "maintenance")),
+  optional-same (0 ∷ 0 ∷ []) (spot key.LampSize i) (numbers 2 0 5000) (numbers-steady 2 0 5000 (spot key.LampSize i)) (at (codes "size")),
+  optional-same (1 ∷ 1 ∷ []) (spot key.LampSplit i) (numbers 2 1 8) (numbers-steady 2 1 8 (spot key.LampSplit i)) (at (codes "split")),
+)
+
 lamp_of-same : (room : Size) (i : ℕ) (files : List FileUse) (d e : Data) → IsReordered d e → lamp_of room i files d ≡ lamp_of room i files e
 unfolding lamp_of
 lamp_of-same room i files d e r =
     bind-same AreReordered _ _ _ _ (table-agrees lamp_keys (spot key.Lamp i) d e r)
     (λ x y at. rw (
       required-same (spot key.LampAt i) (numbers 3 0 50000) (numbers-steady 3 0 50000 (spot key.LampAt i)) (at (codes "at")),
-      where_given-same (spot key.LampCandela i) (number 0 10000000) (number-steady 0 10000000 (spot key.LampCandela i)) (at (codes "candela")),
-      where_given-same (spot key.LampFile i) name_text (name_text-steady (spot key.LampFile i)) (at (codes "file")),
-      optional-same 1 (spot key.LampSet i) (number 1 20) (number-steady 1 20 (spot key.LampSet i)) (at (codes "set")),
-      optional-same 0 (spot key.LampTurn i) (number 0 359) (number-steady 0 359 (spot key.LampTurn i)) (at (codes "turn")),
-      optional-same 1000 (spot key.LampMaintenance i) (number 0 1000) (number-steady 0 1000 (spot key.LampMaintenance i)) (at (codes "maintenance")),
-      optional-same (0 ∷ 0 ∷ []) (spot key.LampSize i) (numbers 2 0 5000) (numbers-steady 2 0 5000 (spot key.LampSize i)) (at (codes "size")),
-      optional-same (1 ∷ 1 ∷ []) (spot key.LampSplit i) (numbers 2 1 8) (numbers-steady 2 1 8 (spot key.LampSplit i)) (at (codes "split")),
+      source_of-same i x y at,
+      fitting_of-same i x y at,
     ))
 
 lamps_from-same : (room : Size) (i : ℕ) (files : List FileUse) (ds es : List Data) → AllZip IsReordered ds es → lamps_from room i files ds ≡ lamps_from room i files es

@@ -1,11 +1,10 @@
+pub mod Kept
+pub mod Shares
 pub mod Orders
 pub mod Rows
+pub mod MoreLights
 pub mod MoreRows
 pub mod Heavy
-pub mod Apart
-pub mod Falls
-pub mod Lamps
 pub mod Lights
-pub mod TwoQuotients
 pub mod HiddenPairs
 pub mod RowLists

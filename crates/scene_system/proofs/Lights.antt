@@ -1,105 +1,228 @@
--- The light of several lamps, one after the other.
-use Rattle.std.proofs.Common.{ℕ, suc, ◌+◌, ◌*◌, ◌^◌, ◌<◌, ◌≤◌, ◌≡◌, ℤ, pos, negsuc, ◌≤ℤ◌, List, length, take, sum_by, arith}
+-- The light of several points, and of several lamps, one after the other.
+use Rattle.std.proofs.Common.{ℕ, suc, ◌+◌, ◌*◌, ◌^◌, ◌<◌, ◌≤◌, ◌≡◌, ℤ, pos, negsuc, ◌≤ℤ◌, List, length, take, sum_by, arith, ap, ◌∙◌, subst}
 use Rattle.std.proofs.lemmas.Int.{ints}
+use Rattle.std.proofs.Math.Nat.{mul-le-mul, le_of_mul-le-mul_left}
 use Rattle.std.proofs.lemmas.List.{take_all}
 use Rattle.std.proofs.lemmas.List.Sums.{sum_by_more}
 use Rattle.std.specs.Prelude.{slice_index_or}
 use Rattle.fx_base.specs.Fraction.{sum_to}
-use Rattle.fx_base.specs.Interval.{Meets, LiesIn}
+use Rattle.fx_base.specs.Interval.{Interval, Meets, LiesIn, sum_of}
 use Rattle.fx_base.specs.Ends.{Ends}
-use Rattle.fx_base.specs.Units.{ticks, natural, of_span}
+use Rattle.fx_base.specs.Units.{natural, of_span}
 use Rattle.fx_base.proofs.Order.{le_trans_f, add_le_f}
 use Rattle.fx_base.proofs.Sums.{ticks_split, ticks_join, no_ticks}
-use Rattle.room_layout.specs.Place.{Place}
+use Rattle.room_layout.specs.Accepted.{IsLampIn, IsShine}
+use Rattle.room_layout.specs.Place.{Place, place_of, point_of}
 use Rattle.room_layout.specs.declared.geometry.Face.{Face}
+use Rattle.room_layout.specs.declared.geometry.Point.{Point}
+use Rattle.room_layout.specs.declared.geometry.Size.{Size}
 use Rattle.room_layout.specs.declared.room.Lamp.{Lamp}
 use Rattle.room_layout.specs.declared.room.Room.{Room}
+use Rattle.photo_table.specs.Table.{Table}
 use Rattle.interval_system.specs.System.{IsDirectLight}
-use Rattle.scene_system.specs.Assembled.{IsDirect}
-use Rattle.scene_system.specs.Causes.{candela_of, greatest_candela, total_candela}
-use Rattle.scene_system.specs.Positions.{IsLampLight, most_of_candela}
-use Rattle.scene_system.specs.Light.{lamp_light, loose_lamp_light, light_of_first, loose_light_of_first, no_lamp}
+use Rattle.direct_light.specs.Lamps.{lamp_place, lamp_points, part_count}
+use Rattle.direct_light.specs.Shares.{loose_share, share}
+use Rattle.scene_system.specs.Causes.{greatest_total, ticks_of, total_ticks}
+use Rattle.scene_system.specs.Light.{is_clear, lamp_light, light_of_first, light_of_points, loose_lamp_light, loose_light_of_first, loose_light_of_points, no_lamp}
+use Rattle.scene_system.specs.Parts.{IsDirectFor}
+use Rattle.scene_system.specs.Positions.{IsLampLight, IsShare, most_light}
+use Rattle.scene_system.specs.Tables.{AreKept, AreTablesOf}
+use Rattle.scene_system.proofs.Kept.{ticks_most}
+use Rattle.direct_light.proofs.PointLists.{lamp_point_at, length-lamp_points}
 
--- a span is the light of the first lamps of a room
-pub record IsLightOfFirst (room : Room) (p : Place) (face : Face) (count : ℕ) (s : Ends) : Type 0 where
-  pub meets : (n : ℕ) → Meets (of_span s) (light_of_first n count room p face)
-  pub near : (n : ℕ) → LiesIn (of_span s) (loose_light_of_first n count room p face)
+-- ---- sums of spans
+
+none_meets : (f : ℕ → Interval) (s : Ends) → s.lo ≡ pos 0 → s.hi ≡ pos 0 → Meets (of_span s) (sum_of 0 f)
+unfolding sum_to
+none_meets f s low high = rw (low, high) (record { above = no_ticks.0; below = no_ticks.1 })
+
+none_near : (f : ℕ → Interval) (s : Ends) → s.lo ≡ pos 0 → s.hi ≡ pos 0 → LiesIn (of_span s) (sum_of 0 f)
+unfolding sum_to
+none_near f s low high = rw (low, high) (record { lower = no_ticks.1; upper = no_ticks.0 })
+
+-- a span is two others together
+record IsTogether (s t r : Ends) : Type 0 where
+  low : r.lo ≡ pos (natural s.lo + natural t.lo)
+  high : r.hi ≡ pos (natural s.hi + natural t.hi)
+
+more_meets : (f : ℕ → Interval) (k : ℕ) (s t r : Ends) → IsTogether s t r → Meets (of_span s) (sum_of k f) → Meets (of_span t) (f k) → Meets (of_span r) (sum_of (suc k) f)
+unfolding sum_to
+more_meets f k s t r is g h = rw (is.low, is.high) (record {
+  above = le_trans_f (ticks_split (natural s.lo) (natural t.lo)) (add_le_f g.above h.above);
+  below = le_trans_f (add_le_f g.below h.below) (ticks_join (natural s.hi) (natural t.hi));
+})
+
+more_near : (f : ℕ → Interval) (k : ℕ) (s t r : Ends) → IsTogether s t r → LiesIn (of_span s) (sum_of k f) → LiesIn (of_span t) (f k) → LiesIn (of_span r) (sum_of (suc k) f)
+unfolding sum_to
+more_near f k s t r is g h = rw (is.low, is.high) (record {
+  lower = le_trans_f (add_le_f g.lower h.lower) (ticks_join (natural s.lo) (natural t.lo));
+  upper = le_trans_f (ticks_split (natural s.hi) (natural t.hi)) (add_le_f g.upper h.upper);
+})
+
+-- ---- the points of a lamp
+
+-- how many parts a lamp of a room has
+pub parts_of : (size : Size) (files : ℕ) (l : Lamp) → IsLampIn size files l → (1 ≤ part_count l) × (part_count l ≤ 64)
+parts_of size files l is =
+    let x = is.split_x in
+    let y = is.split_y in
+    let low : 1 * 1 ≤ l.split_x * l.split_y = mul-le-mul (x.0) (y.0) in
+    let high : l.split_x * l.split_y ≤ 8 * 8 = mul-le-mul (x.1) (y.1) in
+    (low, high)
+
+-- what a lamp within the limit gives is at most 2^82 ticks
+pub lamp_most : (t parts : ℕ) → t ≤ greatest_total → parts ≤ 64 → most_light t parts ≤ 2 ^ 82
+lamp_most t parts dim few = omega (arith, dim, few)
+
+share_most : (hi parts m : ℕ) → 1 ≤ parts → hi * parts ≤ m → hi ≤ m
+share_most hi parts m some h = let g : hi * 1 ≤ hi * parts = mul-le-mul {n₁ = hi} {m₁ = 1} {n₂ = hi} {m₂ = parts} (omega arith) some in omega (arith, g, h)
+
+-- a span is the light of the first points of a lamp
+pub record IsLightOfPoints (photos : List Table) (room : Room) (p : Place) (face : Face) (l : Lamp) (count : ℕ) (s : Ends) : Type 0 where
+  pub meets : (tables : List Table) → AreTablesOf photos tables → (n : ℕ) → Meets (of_span s) (light_of_points n count tables room p face l)
+  pub near : (tables : List Table) → AreTablesOf photos tables → (n : ℕ) → LiesIn (of_span s) (loose_light_of_points n count tables room p face l)
   pub low : pos 0 ≤ℤ s.lo
-  pub most : natural s.hi ≤ sum_by candela_of (take count room.lamps) * most_of_candela
+  pub most : natural s.hi * part_count l ≤ count * most_light (ticks_of photos l) (part_count l)
   pub fits : natural s.hi ≤ count * 2 ^ 82
 
-none_meets : (room : Room) (p : Place) (face : Face) (s : Ends) → s.lo ≡ pos 0 → s.hi ≡ pos 0 → (n : ℕ) → Meets (of_span s) (light_of_first n 0 room p face)
-unfolding light_of_first sum_to
-none_meets room p face s low high n = rw (low, high) (record { above = no_ticks.0; below = no_ticks.1 })
-
-none_near : (room : Room) (p : Place) (face : Face) (s : Ends) → s.lo ≡ pos 0 → s.hi ≡ pos 0 → (n : ℕ) → LiesIn (of_span s) (loose_light_of_first n 0 room p face)
-unfolding loose_light_of_first sum_to
-none_near room p face s low high n = rw (low, high) (record { lower = no_ticks.1; upper = no_ticks.0 })
-
-pub no_lights : (room : Room) (p : Place) (face : Face) (s : Ends) → s.lo ≡ pos 0 → s.hi ≡ pos 0 → IsLightOfFirst room p face 0 s
-no_lights room p face s low high = record {
-  meets = none_meets room p face s low high;
-  near = none_near room p face s low high;
+pub no_points : (photos : List Table) (room : Room) (p : Place) (face : Face) (l : Lamp) (s : Ends) → s.lo ≡ pos 0 → s.hi ≡ pos 0 → IsLightOfPoints photos room p face l 0 s
+unfolding light_of_points loose_light_of_points
+no_points photos room p face l s low high = record {
+  meets = λ tables are n. none_meets (λ k. share n tables l (lamp_place l k) p face (is_clear room (lamp_place l k) p)) s low high;
+  near = λ tables are n. none_near (λ k. loose_share n tables l (lamp_place l k) p face (is_clear room (lamp_place l k) p)) s low high;
   low = rw low (omega (arith, ints));
   most = rw high (omega arith);
   fits = rw high (omega arith);
 }
 
-more_meets : (room : Room) (p : Place) (face : Face) (a b c d k n : ℕ) → Meets (record { lo = ticks a; hi = ticks b }) (light_of_first n k room p face)
-    → Meets (record { lo = ticks c; hi = ticks d }) (lamp_light n room p face (slice_index_or room.lamps k no_lamp))
-    → Meets (record { lo = ticks (a + c); hi = ticks (b + d) }) (light_of_first n (suc k) room p face)
-unfolding light_of_first sum_to
-more_meets room p face a b c d k n g h = record {
-  above = le_trans_f (ticks_split a c) (add_le_f g.above h.above);
-  below = le_trans_f (add_le_f g.below h.below) (ticks_join b d);
-}
+-- the share of the point of number k
+pub share_at : (photos : List Table) (room : Room) (p : Place) (face : Face) (l : Lamp) (points : List Point) (k : ℕ) (d : Point) (t : Ends)
+    → points ≡ lamp_points l → k < part_count l
+    → IsShare photos l (place_of (slice_index_or points k d)) p face (is_clear room (place_of (slice_index_or points k d)) p) t
+    → IsShare photos l (lamp_place l k) p face (is_clear room (lamp_place l k) p) t
+share_at photos room p face l points k d t are inside h =
+    let P : Place → Type 0 = λ z. IsShare photos l z p face (is_clear room z p) t in
+    let e : slice_index_or points k d ≡ point_of (lamp_place l k) = ap (λ (ps : List Point). slice_index_or ps k d) are ∙ lamp_point_at l k d inside in
+    subst P (ap (λ (z : Point). place_of z) e) h
 
-more_near : (room : Room) (p : Place) (face : Face) (a b c d k n : ℕ) → LiesIn (record { lo = ticks a; hi = ticks b }) (loose_light_of_first n k room p face)
-    → LiesIn (record { lo = ticks c; hi = ticks d }) (loose_lamp_light n room p face (slice_index_or room.lamps k no_lamp))
-    → LiesIn (record { lo = ticks (a + c); hi = ticks (b + d) }) (loose_light_of_first n (suc k) room p face)
-unfolding loose_light_of_first sum_to
-more_near room p face a b c d k n g h = record {
-  lower = le_trans_f (add_le_f g.lower h.lower) (ticks_join a c);
-  upper = le_trans_f (ticks_split b d) (add_le_f g.upper h.upper);
-}
+pub lamp_count : (l : Lamp) (points : List Point) → points ≡ lamp_points l → length points ≡ part_count l
+lamp_count l points are = ap length are ∙ length-lamp_points l
 
-more_most : (b d x c y m : ℕ) → b ≤ x * m → d ≤ c * m → y ≡ x + c → b + d ≤ y * m
-more_most b d x c y m f g e = rw e (omega (arith, f, g))
+pub lamp_bounds : (photos : List Table) (room : Room) (l : Lamp) → IsLampIn room.size (length room.files) l → length photos ≡ length room.files → AreKept photos
+    → (1 ≤ part_count l) × (most_light (ticks_of photos l) (part_count l) ≤ 2 ^ 82)
+lamp_bounds photos room l is count kept =
+    let parts = parts_of room.size (length room.files) l is in
+    let shine : IsShine (length photos) l.shine = rw count is.shine in
+    (parts.0, lamp_most (ticks_of photos l) (part_count l) (ticks_most photos l shine kept) (parts.1))
 
-more_candela : (lamps : List Lamp) (k j : ℕ) → j ≡ k + 1 → k < length lamps
-    → sum_by candela_of (take j lamps) ≡ sum_by candela_of (take k lamps) + candela_of (slice_index_or lamps k no_lamp)
-more_candela lamps k j e inside = rw e (sum_by_more candela_of lamps k no_lamp inside)
+pub light_most : (photos : List Table) (room : Room) (p : Place) (face : Face) (l : Lamp) (k : ℕ) (s : Ends) → IsLampIn room.size (length room.files) l → k < part_count l
+    → IsLightOfPoints photos room p face l k s → natural s.hi ≤ 2 ^ 100
+light_most photos room p face l k s is inside h = let parts = parts_of room.size (length room.files) l is in let fits = h.fits in omega (arith, fits, parts.1, inside)
 
-pub one_more_light : (room : Room) (p : Place) (face : Face) (s t r : Ends) (k j : ℕ) → j ≡ suc k → k < length room.lamps → IsLightOfFirst room p face k s
-    → IsLampLight room p face (slice_index_or room.lamps k no_lamp) t → natural t.hi ≤ 2 ^ 82
-    → r.lo ≡ pos (natural s.lo + natural t.lo) → r.hi ≡ pos (natural s.hi + natural t.hi) → IsLightOfFirst room p face j r
-one_more_light room p face s t r k j e inside so_far lamp fits low high = rw e (record {
-  meets = λ n. rw (low, high) (more_meets room p face (natural s.lo) (natural s.hi) (natural t.lo) (natural t.hi) k n (so_far.meets n) (lamp.meets n));
-  near = λ n. rw (low, high) (more_near room p face (natural s.lo) (natural s.hi) (natural t.lo) (natural t.hi) k n (so_far.near n) (lamp.near n));
+more_parts : (a b parts k m : ℕ) → a * parts ≤ k * m → b * parts ≤ m → (a + b) * parts ≤ suc k * m
+more_parts a b parts k m g h = omega (arith, g, h)
+
+pub one_more_point : (photos : List Table) (room : Room) (p : Place) (face : Face) (l : Lamp) (s t r : Ends) (k j : ℕ) → j ≡ suc k → 1 ≤ part_count l
+    → most_light (ticks_of photos l) (part_count l) ≤ 2 ^ 82 → IsLightOfPoints photos room p face l k s
+    → IsShare photos l (lamp_place l k) p face (is_clear room (lamp_place l k) p) t
+    → r.lo ≡ pos (natural s.lo + natural t.lo) → r.hi ≡ pos (natural s.hi + natural t.hi) → IsLightOfPoints photos room p face l j r
+unfolding light_of_points loose_light_of_points
+one_more_point photos room p face l s t r k j e some dim so_far is low high =
+    let both : IsTogether s t r = record { low = low; high = high } in
+    let one : natural t.hi ≤ most_light (ticks_of photos l) (part_count l) = share_most (natural t.hi) (part_count l) (most_light (ticks_of photos l) (part_count l)) some is.most in
+    rw e (record {
+      meets = λ tables are n. more_meets (λ k. share n tables l (lamp_place l k) p face (is_clear room (lamp_place l k) p)) k s t r both (so_far.meets tables are n) (is.meets tables are n);
+      near = λ tables are n. more_near (λ k. loose_share n tables l (lamp_place l k) p face (is_clear room (lamp_place l k) p)) k s t r both (so_far.near tables are n) (is.near tables are n);
+      low = rw low (omega (arith, ints));
+      most = rw high (more_parts (natural s.hi) (natural t.hi) (part_count l) k (most_light (ticks_of photos l) (part_count l)) so_far.most is.most);
+      fits = rw high (let h = so_far.fits in omega (arith, h, one, dim));
+    })
+
+parts_cancel : (hi parts m : ℕ) → 1 ≤ parts → hi * parts ≤ parts * m → hi ≤ m
+parts_cancel hi parts m some h = le_of_mul-le-mul_left {k = parts} (omega (arith, h)) some
+
+pub all_points : (photos : List Table) (room : Room) (p : Place) (face : Face) (l : Lamp) (count : ℕ) (s : Ends) → count ≡ part_count l → 1 ≤ part_count l
+    → IsLightOfPoints photos room p face l count s → IsLampLight photos room p face l s
+all_points photos room p face l count s e some h =
+    let m = h.meets in
+    let n = h.near in
+    let most = h.most in
+    record {
+      meets = rw e at m;
+      near = rw e at n;
+      low = h.low;
+      most = parts_cancel (natural s.hi) (part_count l) (most_light (ticks_of photos l) (part_count l)) some (rw e at most);
+    }
+
+-- ---- the lamps of a room
+
+-- a span is the light of the first lamps of a room
+pub record IsLightOfFirst (photos : List Table) (room : Room) (p : Place) (face : Face) (count : ℕ) (s : Ends) : Type 0 where
+  pub meets : (tables : List Table) → AreTablesOf photos tables → (n : ℕ) → Meets (of_span s) (light_of_first n count tables room p face)
+  pub near : (tables : List Table) → AreTablesOf photos tables → (n : ℕ) → LiesIn (of_span s) (loose_light_of_first n count tables room p face)
+  pub low : pos 0 ≤ℤ s.lo
+  pub most : natural s.hi ≤ sum_by (ticks_of photos) (take count room.lamps) * 4000000 + count * 4000128
+  pub fits : natural s.hi ≤ count * 2 ^ 82
+
+pub no_lights : (photos : List Table) (room : Room) (p : Place) (face : Face) (s : Ends) → s.lo ≡ pos 0 → s.hi ≡ pos 0 → IsLightOfFirst photos room p face 0 s
+unfolding light_of_first loose_light_of_first
+no_lights photos room p face s low high = record {
+  meets = λ tables are n. none_meets (λ k. lamp_light n tables room p face (slice_index_or room.lamps k no_lamp)) s low high;
+  near = λ tables are n. none_near (λ k. loose_lamp_light n tables room p face (slice_index_or room.lamps k no_lamp)) s low high;
   low = rw low (omega (arith, ints));
-  most = rw high (more_most (natural s.hi) (natural t.hi) (sum_by candela_of (take k room.lamps)) (candela_of (slice_index_or room.lamps k no_lamp))
-      (sum_by candela_of (take (suc k) room.lamps)) most_of_candela so_far.most lamp.most (more_candela room.lamps k (suc k) (omega arith) inside));
-  fits = rw high (let h = so_far.fits in omega (arith, h, fits));
-})
+  most = rw high (omega arith);
+  fits = rw high (omega arith);
+}
+
+more_most : (b d x c y k parts : ℕ) → b ≤ x * 4000000 + k * 4000128 → d ≤ most_light c parts → parts ≤ 64 → y ≡ x + c → b + d ≤ y * 4000000 + suc k * 4000128
+more_most b d x c y k parts f g few e = rw e (omega (arith, f, g, few))
+
+more_ticks : (photos : List Table) (lamps : List Lamp) (k j : ℕ) → j ≡ k + 1 → k < length lamps
+    → sum_by (ticks_of photos) (take j lamps) ≡ sum_by (ticks_of photos) (take k lamps) + ticks_of photos (slice_index_or lamps k no_lamp)
+more_ticks photos lamps k j e inside = rw e (sum_by_more (ticks_of photos) lamps k no_lamp inside)
+
+pub one_more_light : (photos : List Table) (room : Room) (p : Place) (face : Face) (s t r : Ends) (k j : ℕ) → j ≡ suc k → k < length room.lamps
+    → part_count (slice_index_or room.lamps k no_lamp) ≤ 64 → IsLightOfFirst photos room p face k s
+    → IsLampLight photos room p face (slice_index_or room.lamps k no_lamp) t → natural t.hi ≤ 2 ^ 82
+    → r.lo ≡ pos (natural s.lo + natural t.lo) → r.hi ≡ pos (natural s.hi + natural t.hi) → IsLightOfFirst photos room p face j r
+unfolding light_of_first loose_light_of_first
+one_more_light photos room p face s t r k j e inside parts so_far lamp fits low high =
+    let both : IsTogether s t r = record { low = low; high = high } in
+    let l = slice_index_or room.lamps k no_lamp in
+    rw e (record {
+      meets = λ tables are n. more_meets (λ k. lamp_light n tables room p face (slice_index_or room.lamps k no_lamp)) k s t r both (so_far.meets tables are n) (lamp.meets tables are n);
+      near = λ tables are n. more_near (λ k. loose_lamp_light n tables room p face (slice_index_or room.lamps k no_lamp)) k s t r both (so_far.near tables are n) (lamp.near tables are n);
+      low = rw low (omega (arith, ints));
+      most = rw high (more_most (natural s.hi) (natural t.hi) (sum_by (ticks_of photos) (take k room.lamps)) (ticks_of photos l)
+          (sum_by (ticks_of photos) (take (suc k) room.lamps)) k (part_count l) so_far.most lamp.most parts (more_ticks photos room.lamps k (suc k) (omega arith) inside));
+      fits = rw high (let h = so_far.fits in omega (arith, h, fits));
+    })
 
 -- ---- all lamps
 
-pub whole_direct : (room : Room) (p : Place) (face : Face) (count : ℕ) (s : Ends) → count ≡ length room.lamps → IsLightOfFirst room p face count s → IsDirect room p face s
-whole_direct room p face count s e so_far = let m = so_far.meets in let n = so_far.near in record { meets = rw e at m; near = rw e at n }
+pub whole_direct : (photos : List Table) (room : Room) (p : Place) (face : Face) (count : ℕ) (s : Ends) → count ≡ length room.lamps → IsLightOfFirst photos room p face count s
+    → IsDirectFor photos room p face s
+whole_direct photos room p face count s e so_far =
+    let m = so_far.meets in
+    let n = so_far.near in
+    let all_meet : (tables : List Table) → AreTablesOf photos tables → (n : ℕ) → Meets (of_span s) (light_of_first n (length room.lamps) tables room p face) = rw e at m in
+    let all_near : (tables : List Table) → AreTablesOf photos tables → (n : ℕ) → LiesIn (of_span s) (loose_light_of_first n (length room.lamps) tables room p face) = rw e at n in
+    λ tables are. record { meets = all_meet tables are; near = all_near tables are }
 
-total_most : (x h : ℕ) → x ≤ 10000000 → h ≤ x * 274877906944000000 → h ≤ 2 ^ 82
-total_most x h d f = omega (arith, d, f)
+total_most : (x h k : ℕ) → x ≤ greatest_total → k ≤ 256 → h ≤ x * 4000000 + k * 4000128 → h ≤ 2 ^ 82
+total_most x h k d few f = omega (arith, d, few, f)
 
 in_ticks : (z : ℤ) (m : ℕ) → natural z ≤ m → z ≤ℤ pos m
 in_ticks (pos n) m h = omega (arith, ints, h)
 in_ticks (negsuc n) m h = omega (arith, ints)
 
-pub whole_light : (room : Room) (p : Place) (face : Face) (count : ℕ) (s : Ends) → count ≡ length room.lamps → total_candela room ≤ greatest_candela → s.lo ≤ℤ s.hi
-    → IsLightOfFirst room p face count s → IsDirectLight s
-whole_light room p face count s e dim order so_far =
+pub whole_light : (photos : List Table) (room : Room) (p : Place) (face : Face) (count : ℕ) (s : Ends) → count ≡ length room.lamps → length room.lamps ≤ 256
+    → total_ticks photos room ≤ greatest_total → s.lo ≤ℤ s.hi → IsLightOfFirst photos room p face count s → IsDirectLight s
+whole_light photos room p face count s e few dim order so_far =
     let h = so_far.most in
     record {
       low = so_far.low;
       in_order = order;
-      most = in_ticks s.hi (2 ^ 82) (total_most (total_candela room) (natural s.hi) dim (rw (take_all count room.lamps (omega (arith, e))) at h));
+      most = in_ticks s.hi (2 ^ 82) (total_most (total_ticks photos room) (natural s.hi) count dim (omega (arith, e, few))
+          (rw (take_all count room.lamps (omega (arith, e))) at h));
     }

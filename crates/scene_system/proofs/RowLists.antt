@@ -7,6 +7,7 @@ use Rattle.room_layout.specs.Accepted.{IsAccepted}
 use Rattle.room_layout.specs.Place.{Place}
 use Rattle.room_layout.specs.declared.geometry.Face.{Face}
 use Rattle.room_layout.specs.declared.room.Room.{Room}
+use Rattle.photo_table.specs.Table.{Table}
 use Rattle.patch_mesh.specs.declared.patch.Patch.{Patch}
 use Rattle.interval_system.specs.System.{IsDirectLight, IsRow, IsSystem, IsWeight, no_light}
 use Rattle.scene_system.specs.Assembled.{Numbers, IsWellFormed, open_points}
@@ -26,13 +27,13 @@ all_sizes room place face n m rows e h = All-from_get_or (λ row. length row ≡
 all_weights : (room : Room) (place : ℕ → Place) (face : ℕ → Face) (n : ℕ) (rows : List (List Weight)) → AreRowsAt room place face n rows → All (All IsWeight) rows
 all_weights room place face n rows h = All-from_get_or (All IsWeight) rows [] (λ i l. (h.each i (inside i (length rows) n h.size l)).parts.each)
 
-all_lights : (room : Room) (place : ℕ → Place) (face : ℕ → Face) (n : ℕ) (lights : List Ends) → AreLightsAt room place face n lights → All IsDirectLight lights
-all_lights room place face n lights h = All-from_get_or IsDirectLight lights no_light (λ i l. h.each i (inside i (length lights) n h.size l))
+all_lights : (photos : List Table) (room : Room) (place : ℕ → Place) (face : ℕ → Face) (n : ℕ) (lights : List Ends) → AreLightsAt photos room place face n lights → All IsDirectLight lights
+all_lights photos room place face n lights h = All-from_get_or IsDirectLight lights no_light (λ i l. h.each i (inside i (length lights) n h.size l))
 
-pub is_system : (room : Room) (place : ℕ → Place) (face : ℕ → Face) (list : List Patch) (rows : List (List Weight)) (direct : List Ends)
-    → ArePatchesOf room list → AreRowsAt room place face (patch_count room) rows → AreLightsAt room place face (patch_count room) direct
+pub is_system : (photos : List Table) (room : Room) (place : ℕ → Place) (face : ℕ → Face) (list : List Patch) (rows : List (List Weight)) (direct : List Ends)
+    → ArePatchesOf room list → AreRowsAt room place face (patch_count room) rows → AreLightsAt photos room place face (patch_count room) direct
     → IsSystem (record { rows = rows; direct = direct })
-is_system room place face list rows direct p r d =
+is_system photos room place face list rows direct p r d =
     let few : length list ≤ 2048 = p.few in
     let count : length list ≡ patch_count room = ap length p.are in
     let size = r.size in
@@ -41,13 +42,13 @@ is_system room place face list rows direct p r d =
       square = all_sizes room place face (patch_count room) (length rows) rows (sym size) r;
       weights = all_weights room place face (patch_count room) rows r;
       lights = d.size ∙ sym size;
-      light = all_lights room place face (patch_count room) direct d;
+      light = all_lights photos room place face (patch_count room) direct d;
     }
 
-pub well_formed : (room : Room) (s : Numbers) (place : ℕ → Place) (face : ℕ → Face) → IsAccepted room → ArePatchesOf room s.patches → AreTaskPointsOf room s.points
+pub well_formed : (photos : List Table) (room : Room) (s : Numbers) (place : ℕ → Place) (face : ℕ → Face) → IsAccepted room → ArePatchesOf room s.patches → AreTaskPointsOf room s.points
     → 0 < open_points s.points → length s.system.rows ≡ patch_count room → IsSystem s.system
-    → AreRowsAt room place face (length s.points) s.point_rows → AreLightsAt room place face (length s.points) s.point_direct → IsWellFormed s
-well_formed room s place face accepted patches points some square system rows lights =
+    → AreRowsAt room place face (length s.points) s.point_rows → AreLightsAt photos room place face (length s.points) s.point_direct → IsWellFormed s
+well_formed photos room s place face accepted patches points some square system rows lights =
     let count : length s.patches ≡ patch_count room = ap length patches.are in
     let all = points.count in
     let few = accepted.task.points in
@@ -60,6 +61,6 @@ well_formed room s place face accepted patches points some square system rows li
       row_sizes = all_sizes room place face (length s.points) (length s.patches) s.point_rows (sym count) rows;
       weights = all_rows room place face (length s.points) s.point_rows rows;
       lights = lights.size;
-      each_light = all_lights room place face (length s.points) s.point_direct lights;
+      each_light = all_lights photos room place face (length s.points) s.point_direct lights;
       some_open = some;
     }

@@ -20,11 +20,11 @@ use Rattle.room_layout.specs.declared.geometry.Face.{Face}
 use Rattle.room_layout.specs.declared.geometry.Face.TheVariants.{Up}
 use Rattle.room_layout.specs.declared.room.Room.{Room}
 use Rattle.form_factor.proofs.Coefficients.{narrows, close_of}
-use Rattle.scene_system.specs.Assembled.{Numbers, point_weight, HasNearWeights, IsWellFormed, IsSceneOf, IsWeightAt}
+use Rattle.scene_system.specs.Assembled.{Numbers, point_weight, HasNearWeights, HasWeightsOf, IsWellFormed, IsWeightAt}
 use Rattle.scene_system.specs.RowSums.{row_sum, slack, RowsStayBelowOne}
-use Rattle.scene_system.specs.Scene.{patch_count, patch_of, patch_place, patch_face, task_point_place, loose_coefficient_at, radiosity, loose_radiosity}
+use Rattle.scene_system.specs.Scene.{patch_count, patch_of, patch_place, patch_face, task_point_place, coefficient_at, loose_coefficient_at, radiosity, loose_radiosity}
 use Rattle.scene_system.specs.Light.{is_clear}
-use Rattle.scene_system.proofs.Orders.{patch_reaches, in_order}
+use Rattle.scene_system.proofs.Orders.{coefficient_order, loose_coefficient_order, patch_reaches}
 
 -- ---- sums of ticks and of fractions
 
@@ -69,13 +69,13 @@ total-at-most f [] d (suc n) e = omega (arith, total-at-most f [] d n e, e)
 total-at-most f (x ∷ xs) d (suc n) e =
     omega (arith, total-first n (λ j. f (get_or (x ∷ xs) j d)), total-at-most f xs d n e, sum_by-cons f x xs)
 
-pub rows_are : (room : Room) (s : Numbers) → IsWellFormed s → IsSceneOf room s → length s.system.rows ≡ patch_count room
+pub rows_are : (room : Room) (s : Numbers) → IsWellFormed s → HasWeightsOf room s → length s.system.rows ≡ patch_count room
 rows_are room s formed scene = formed.size ∙ ap length scene.patches_are
 
-pub few_patches : (room : Room) (s : Numbers) → IsWellFormed s → IsSceneOf room s → patch_count room ≤ 2048
+pub few_patches : (room : Room) (s : Numbers) → IsWellFormed s → HasWeightsOf room s → patch_count room ≤ 2048
 few_patches room s formed scene = let few = formed.few_patches in let e : length s.patches ≡ patch_count room = ap length scene.patches_are in omega arith
 
-pub row-total : (room : Room) (s : Numbers) → IsSystem s.system → IsWellFormed s → IsSceneOf room s → (i : ℕ) → i < patch_count room
+pub row-total : (room : Room) (s : Numbers) → IsSystem s.system → IsWellFormed s → HasWeightsOf room s → (i : ℕ) → i < patch_count room
     → upper_total (get_or s.system.rows i []) ≡ total (patch_count room) (high_weight s.system i)
 row-total room s y formed scene i l =
     let rows : length s.system.rows ≡ patch_count room = rows_are room s formed scene in
@@ -89,42 +89,42 @@ five_ticks : ticks 5 ≤ᶠ half_power 32
 unfolding ticks half_power
 five_ticks = record { cross = lit≤ tt }
 
-pub weight_below : (n : ℕ) (room : Room) (s : Numbers) (i j : ℕ) → IsSceneOf room s → i < patch_count room → j < patch_count room
-    → ticks (high_weight s.system i j) ≤ᶠ (((radiosity n room).patches.coefficient i j).hi +ᶠ half_power 32)
+pub weight_below : (n : ℕ) (room : Room) (s : Numbers) (i j : ℕ) → HasWeightsOf room s → i < patch_count room → j < patch_count room
+    → ticks (high_weight s.system i j) ≤ᶠ ((coefficient_at n room (patch_place room i) (patch_face room i) j).hi +ᶠ half_power 32)
 weight_below n room s i j scene k l =
-    let w : IsWeightAt room (patch_place room i) (patch_face room i) j (weight_at s.system i j) = scene.weights i j k l in
+    let w : IsWeightAt room (patch_place room i) (patch_face room i) j (weight_at s.system i j) = scene.patch_weights i j k l in
     le_trans_f (ticks_le (weight_at s.system i j).hi ((weight_at s.system i j).lo + 5) w.narrow)
     (le_trans_f (ticks_split (weight_at s.system i j).lo 5) (add_le_f (w.low n) five_ticks))
 
-pub weight_above : (n : ℕ) (room : Room) (s : Numbers) (i j : ℕ) → IsSceneOf room s → i < patch_count room → j < patch_count room
-    → ((radiosity n room).patches.coefficient i j).lo ≤ᶠ ticks (high_weight s.system i j)
-weight_above n room s i j scene k l = (scene.weights i j k l).high n
+pub weight_above : (n : ℕ) (room : Room) (s : Numbers) (i j : ℕ) → HasWeightsOf room s → i < patch_count room → j < patch_count room
+    → (coefficient_at n room (patch_place room i) (patch_face room i) j).lo ≤ᶠ ticks (high_weight s.system i j)
+weight_above n room s i j scene k l = (scene.patch_weights i j k l).high n
 
 -- a weight lies within the loose coefficient
 pub weight_close : (n : ℕ) (room : Room) (p : Place) (face : Face) (j : ℕ) (w : Weight) → IsWeightAt room p face j w
     → LiesIn (record { lo = ticks w.lo; hi = ticks w.hi }) (loose_coefficient_at n room p face j)
 weight_close n room p face j w is = close_of p face (patch_of room j) (is_clear room p (patch_place room j)) w is n
 
-pub near_weights : (room : Room) (s : Numbers) → IsSceneOf room s → HasNearWeights room s
+pub near_weights : (room : Room) (s : Numbers) → HasWeightsOf room s → HasNearWeights room s
 near_weights room s scene = record {
-  weights = λ n i j a b. weight_close n room (patch_place room i) (patch_face room i) j (weight_at s.system i j) (scene.weights i j a b);
+  weights = λ n i j a b. weight_close n room (patch_place room i) (patch_face room i) j (weight_at s.system i j) (scene.patch_weights i j a b);
   point_weights = λ n g j a b. weight_close n room (task_point_place room g) Up j (point_weight s g j) (scene.point_weights g j a b);
 }
 
 -- ---- row sums against each other
 
-pub row_below : (n : ℕ) (room : Room) (s : Numbers) (i : ℕ) → IsSceneOf room s → i < patch_count room
+pub row_below : (n : ℕ) (room : Room) (s : Numbers) (i : ℕ) → HasWeightsOf room s → i < patch_count room
     → ticks (total (patch_count room) (high_weight s.system i)) ≤ᶠ ((row_sum n room i).hi +ᶠ slack room)
 row_below n room s i scene k =
     le_trans_f
-    (ticks_total_below (patch_count room) (high_weight s.system i) (λ j. ((radiosity n room).patches.coefficient i j).hi +ᶠ half_power 32)
+    (ticks_total_below (patch_count room) (high_weight s.system i) (λ j. (coefficient_at n room (patch_place room i) (patch_face room i) j).hi +ᶠ half_power 32)
     (λ j l. weight_below n room s i j scene k l))
-    (sum_to_more (patch_count room) (half_power 32) (λ j. ((radiosity n room).patches.coefficient i j).hi))
+    (sum_to_more (patch_count room) (half_power 32) (λ j. (coefficient_at n room (patch_place room i) (patch_face room i) j).hi))
 
-pub row_above : (n : ℕ) (room : Room) (s : Numbers) (i : ℕ) → IsSceneOf room s → i < patch_count room
+pub row_above : (n : ℕ) (room : Room) (s : Numbers) (i : ℕ) → HasWeightsOf room s → i < patch_count room
     → (row_sum n room i).lo ≤ᶠ ticks (total (patch_count room) (high_weight s.system i))
 row_above n room s i scene k =
-    ticks_total_above (patch_count room) (high_weight s.system i) (λ j. ((radiosity n room).patches.coefficient i j).lo)
+    ticks_total_above (patch_count room) (high_weight s.system i) (λ j. (coefficient_at n room (patch_place room i) (patch_face room i) j).lo)
     (λ j l. weight_above n room s i j scene k l)
 
 -- ---- upper ends from depth 2
@@ -137,8 +137,8 @@ loose_below_millionth : (ratio 1 2400000 +ᶠ half_power 32) ≤ᶠ ratio 1 1000
 unfolding ratio half_power ◌+ᶠ◌
 loose_below_millionth = record { cross = lit≤ tt }
 
-pub upper_close : (n : ℕ) (room : Room) (s : Numbers) (i j : ℕ) → IsAccepted room → IsSceneOf room s → 2 ≤ n → i < patch_count room → j < patch_count room
-    → ((radiosity n room).patches.coefficient i j).hi ≤ᶠ (ticks (high_weight s.system i j) +ᶠ ratio 1 2400000)
+pub upper_close : (n : ℕ) (room : Room) (s : Numbers) (i j : ℕ) → IsAccepted room → HasWeightsOf room s → 2 ≤ n → i < patch_count room → j < patch_count room
+    → (coefficient_at n room (patch_place room i) (patch_face room i) j).hi ≤ᶠ (ticks (high_weight s.system i j) +ᶠ ratio 1 2400000)
 upper_close n room s i j accepted scene deep k l =
     let patch = patch_reaches room j accepted l in
     le_trans_f
@@ -150,7 +150,7 @@ loose_close k c h =
     le_trans_f (add_le_f h (le_refl_f (half_power 32)))
     (le_trans_f (add_right_f c (ratio 1 2400000) (half_power 32)) (add_le_f (le_refl_f c) loose_below_millionth))
 
-pub light_row : (room : Room) (s : Numbers) → IsWellFormed s → IsSceneOf room s → NoneHeavy s.system.rows
+pub light_row : (room : Room) (s : Numbers) → IsWellFormed s → HasWeightsOf room s → NoneHeavy s.system.rows
     → (i : ℕ) → i < patch_count room → total (patch_count room) (high_weight s.system i) ≤ 68451041280
 light_row room s formed scene none i k =
     let rows : length s.system.rows ≡ patch_count room = rows_are room s formed scene in
@@ -167,15 +167,15 @@ both_below s order upper = record {
 }
 
 pub rows_below : RowsStayBelowOne
-rows_below room s n accepted formed scene none deep = (
-  both_below (radiosity n room).patches ((in_order n room accepted).0).coefficient (record {
-    row = λ i k. sum_below_one (patch_count room) (high_weight s.system i) (λ j. ((radiosity n room).patches.coefficient i j).hi)
+rows_below tables room s n accepted formed scene none deep = (
+  both_below (radiosity n tables room).patches (λ i j k l. coefficient_order n room (patch_place room i) (patch_face room i) j accepted l) (record {
+    row = λ i k. sum_below_one (patch_count room) (high_weight s.system i) (λ j. (coefficient_at n room (patch_place room i) (patch_face room i) j).hi)
         (few_patches room s formed scene) (light_row room s formed scene none i k)
         (λ j l. le_trans_f (upper_close n room s i j accepted scene deep k l) (add_le_f (le_refl_f (ticks (high_weight s.system i j))) fine_below_millionth));
   }),
-  both_below (loose_radiosity n room).patches ((in_order n room accepted).1).coefficient (record {
-    row = λ i k. sum_below_one (patch_count room) (high_weight s.system i) (λ j. ((loose_radiosity n room).patches.coefficient i j).hi)
+  both_below (loose_radiosity n tables room).patches (λ i j k l. loose_coefficient_order n room (patch_place room i) (patch_face room i) j accepted l) (record {
+    row = λ i k. sum_below_one (patch_count room) (high_weight s.system i) (λ j. (loose_coefficient_at n room (patch_place room i) (patch_face room i) j).hi)
         (few_patches room s formed scene) (light_row room s formed scene none i k)
-        (λ j l. loose_close ((radiosity n room).patches.coefficient i j).hi (ticks (high_weight s.system i j)) (upper_close n room s i j accepted scene deep k l));
+        (λ j l. loose_close (coefficient_at n room (patch_place room i) (patch_face room i) j).hi (ticks (high_weight s.system i j)) (upper_close n room s i j accepted scene deep k l));
   }),
 )

@@ -8,6 +8,7 @@ use Rattle.room_layout.specs.Place.{Place}
 use Rattle.room_layout.specs.declared.geometry.Face.{Face}
 use Rattle.room_layout.specs.declared.geometry.Face.TheVariants.{Up}
 use Rattle.room_layout.specs.declared.room.Room.{Room}
+use Rattle.photo_table.specs.Table.{Table}
 use Rattle.patch_mesh.specs.Patches.{patches}
 use Rattle.patch_mesh.specs.TaskPoints.{task_points}
 use Rattle.patch_mesh.specs.declared.patch.Patch.{Patch}
@@ -60,25 +61,29 @@ pub record IsWellFormed (s : Numbers) : Type 0 where
 
 -- ---- a scene of a room
 
--- a span meets the direct light at a place with this face at every depth, and lies in the loose form of it
-pub record IsDirect (room : Room) (p : Place) (face : Face) (d : Ends) : Type 0 where
-  pub meets : (n : ℕ) → Meets (of_span d) (direct_light n room p face)
-  pub near : (n : ℕ) → LiesIn (of_span d) (loose_direct_light n room p face)
+-- a span meets the direct light at a place with this face at every depth, and lies in the loose form of it; `tables` are the exact
+-- tables of the room's files
+pub record IsDirect (tables : List Table) (room : Room) (p : Place) (face : Face) (d : Ends) : Type 0 where
+  pub meets : (n : ℕ) → Meets (of_span d) (direct_light n tables room p face)
+  pub near : (n : ℕ) → LiesIn (of_span d) (loose_direct_light n tables room p face)
 
 -- a weight is that with which patch j lights a place with this face
 abbrev pub IsWeightAt : Room → Place → Face → ℕ → Weight → Type 0
 IsWeightAt room p face j w = IsCoefficient p face (patch_of room j) (is_clear room p (patch_place room j)) w
 
--- the patches and task points are those of the room; weights and spans meet the coefficients and the direct light at every depth, and
--- are near them
-pub record IsSceneOf (room : Room) (s : Numbers) : Type 0 where
+-- the patches and task points are those of the room, and the weights meet the coefficients at every depth
+pub record HasWeightsOf (room : Room) (s : Numbers) : Type 0 where
   pub patches_are : s.patches ≡ patches room
   pub points_are : s.points ≡ task_points room
   pub point_count : length s.points ≡ room.task.nx * room.task.ny
-  pub weights : (i j : ℕ) → i < patch_count room → j < patch_count room → IsWeightAt room (patch_place room i) (patch_face room i) j (weight_at s.system i j)
-  pub lights : (i : ℕ) → i < patch_count room → IsDirect room (patch_place room i) (patch_face room i) (direct_at s.system i)
+  pub patch_weights : (i j : ℕ) → i < patch_count room → j < patch_count room → IsWeightAt room (patch_place room i) (patch_face room i) j (weight_at s.system i j)
   pub point_weights : (g j : ℕ) → g < length s.points → j < patch_count room → IsWeightAt room (task_point_place room g) Up j (point_weight s g j)
-  pub point_lights : (g : ℕ) → g < length s.points → IsDirect room (task_point_place room g) Up (point_light s g)
+
+-- and the spans meet the direct light at every depth, and are near it
+pub record IsSceneOf (tables : List Table) (room : Room) (s : Numbers) : Type 0 where
+  pub weights : HasWeightsOf room s
+  pub lights : (i : ℕ) → i < patch_count room → IsDirect tables room (patch_place room i) (patch_face room i) (direct_at s.system i)
+  pub point_lights : (g : ℕ) → g < length s.points → IsDirect tables room (task_point_place room g) Up (point_light s g)
 
 -- the weights lie in the loose coefficients, at every depth
 pub record HasNearWeights (room : Room) (s : Numbers) : Type 0 where

@@ -1,9 +1,11 @@
 -- What holds of the enclosures of a room at every depth.
-use Rattle.std.specs.Prelude.{ℕ, ◌<◌}
+use Rattle.std.specs.Prelude.{ℕ, ◌<◌, List}
 use Rattle.fx_base.specs.Interval.{InOrder}
 use Rattle.interval_system.specs.Radiosity.{Radiosity}
 use Rattle.room_layout.specs.Accepted.{IsAccepted}
 use Rattle.room_layout.specs.declared.room.Room.{Room}
+use Rattle.photo_table.specs.Table.{Table}
+use Rattle.scene_system.specs.Tables.{AreExactTables}
 use Rattle.scene_system.specs.Scene.{radiosity, loose_radiosity}
 
 -- no coefficient and no direct light has a lower end above its upper end
@@ -15,4 +17,5 @@ pub record HasEndsInOrder (s : Radiosity) : Type 0 where
 
 -- at every depth, in the exact and in the loose form
 abbrev pub RadiosityIsInOrder : Type 0
-RadiosityIsInOrder = (n : ℕ) (room : Room) → IsAccepted room → HasEndsInOrder (radiosity n room) × HasEndsInOrder (loose_radiosity n room)
+RadiosityIsInOrder = (n : ℕ) (tables : List Table) (room : Room) → IsAccepted room → AreExactTables room tables
+    → HasEndsInOrder (radiosity n tables room) × HasEndsInOrder (loose_radiosity n tables room)

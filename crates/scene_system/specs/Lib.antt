@@ -2,6 +2,7 @@ pub mod Light
 pub mod Scene
 pub mod Assembled
 pub mod Causes
+pub mod Tables
 pub mod Positions
 pub mod Parts
 pub mod RowSums

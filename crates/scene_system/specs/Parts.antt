@@ -5,6 +5,7 @@ use Rattle.fx_base.specs.declared.Weight.{Weight}
 use Rattle.room_layout.specs.Place.{Place}
 use Rattle.room_layout.specs.declared.geometry.Face.{Face}
 use Rattle.room_layout.specs.declared.room.Room.{Room}
+use Rattle.photo_table.specs.Table.{Table}
 use Rattle.patch_mesh.specs.Bounds.{IsPatchIn, IsTaskPointIn, largest_room}
 use Rattle.patch_mesh.specs.Patches.{patches}
 use Rattle.patch_mesh.specs.TaskPoints.{task_points}
@@ -13,6 +14,7 @@ use Rattle.patch_mesh.specs.declared.patch.TaskPoint.{TaskPoint}
 use Rattle.interval_system.specs.System.{IsDirectLight, IsRow, no_weight, no_light}
 use Rattle.scene_system.specs.Assembled.{IsDirect, IsWeightAt}
 use Rattle.scene_system.specs.Scene.{patch_count}
+use Rattle.scene_system.specs.Tables.{AreTablesOf}
 
 -- a list is that of the room's patches
 pub record ArePatchesOf (room : Room) (list : List Patch) : Type 0 where
@@ -41,8 +43,12 @@ pub record AreRowsAt (room : Room) (place : ℕ → Place) (face : ℕ → Face)
   pub size : length rows ≡ count
   pub each : (i : ℕ) → i < count → IsRowAt room (place i) (face i) (slice_index_or rows i [])
 
+-- a span is the direct light there, whichever exact tables the kept ones are of
+abbrev pub IsDirectFor : List Table → Room → Place → Face → Ends → Type 0
+IsDirectFor photos room p face d = (tables : List Table) → AreTablesOf photos tables → IsDirect tables room p face d
+
 -- the direct light of the first places with these faces
-pub record AreLightsAt (room : Room) (place : ℕ → Place) (face : ℕ → Face) (count : ℕ) (lights : List Ends) : Type 0 where
+pub record AreLightsAt (photos : List Table) (room : Room) (place : ℕ → Place) (face : ℕ → Face) (count : ℕ) (lights : List Ends) : Type 0 where
   pub size : length lights ≡ count
-  pub direct : (i : ℕ) → i < count → IsDirect room (place i) (face i) (slice_index_or lights i no_light)
+  pub direct : (i : ℕ) → i < count → IsDirectFor photos room (place i) (face i) (slice_index_or lights i no_light)
   pub each : (i : ℕ) → i < count → IsDirectLight (slice_index_or lights i no_light)

@@ -1,5 +1,5 @@
 -- Row sums of a room's coefficients: when a room may be refused for them, when it must be, and when it can't be.
-use Rattle.std.specs.Prelude.{ℕ, ◌*◌, ◌<◌, ◌≤◌, ◌^◌}
+use Rattle.std.specs.Prelude.{ℕ, ◌*◌, ◌<◌, ◌≤◌, ◌^◌, List}
 use Rattle.std.specs.Int.{div_ceil}
 use Rattle.fx_base.specs.Fraction.{Fraction, ◌≤ᶠ◌, ◌<ᶠ◌, ◌+ᶠ◌, ◌*ᶠ◌, ratio, whole, half_power}
 use Rattle.fx_base.specs.Interval.{Interval, sum_of}
@@ -7,12 +7,13 @@ use Rattle.interval_system.specs.Radiosity.{AreRowsBelowOne}
 use Rattle.interval_system.specs.System.{NoneHeavy, IsFirstHeavy}
 use Rattle.room_layout.specs.Accepted.{IsAccepted}
 use Rattle.room_layout.specs.declared.room.Room.{Room}
-use Rattle.scene_system.specs.Assembled.{Numbers, IsWellFormed, IsSceneOf}
-use Rattle.scene_system.specs.Scene.{patch_count, radiosity, loose_radiosity}
+use Rattle.photo_table.specs.Table.{Table}
+use Rattle.scene_system.specs.Assembled.{Numbers, HasWeightsOf, IsWellFormed}
+use Rattle.scene_system.specs.Scene.{coefficient_at, patch_count, patch_face, patch_place, radiosity, loose_radiosity}
 
 -- the sum of the coefficients of patch i at depth n
 abbrev pub row_sum : ℕ → Room → ℕ → Interval
-row_sum n room i = sum_of (patch_count room) (λ j. (radiosity n room).patches.coefficient i j)
+row_sum n room i = sum_of (patch_count room) (λ j. coefficient_at n room (patch_place room i) (patch_face room i) j)
 
 -- the greatest sum of a row with which the equations are solved
 abbrev pub greatest_row_sum : Fraction
@@ -51,15 +52,15 @@ pub record IsMild (room : Room) : Type 0 where
 -- ---- what they are to a scene of the room
 
 abbrev pub HeavyHasCause : Type 0
-HeavyHasCause = (room : Room) (s : Numbers) (row sum : ℕ) → IsAccepted room → IsWellFormed s → IsSceneOf room s → IsFirstHeavy s.system.rows row sum → MayBeHeavy room row (in_thousandths sum)
+HeavyHasCause = (room : Room) (s : Numbers) (row sum : ℕ) → IsAccepted room → IsWellFormed s → HasWeightsOf room s → IsFirstHeavy s.system.rows row sum → MayBeHeavy room row (in_thousandths sum)
 
 abbrev pub NoneIsShownHeavy : Type 0
-NoneIsShownHeavy = (room : Room) (s : Numbers) → IsAccepted room → IsWellFormed s → IsSceneOf room s → NoneHeavy s.system.rows → NoneIsHeavy room
+NoneIsShownHeavy = (room : Room) (s : Numbers) → IsAccepted room → IsWellFormed s → HasWeightsOf room s → NoneHeavy s.system.rows → NoneIsHeavy room
 
 abbrev pub MildIsServed : Type 0
-MildIsServed = (room : Room) (s : Numbers) → IsAccepted room → IsWellFormed s → IsSceneOf room s → IsMild room → NoneHeavy s.system.rows
+MildIsServed = (room : Room) (s : Numbers) → IsAccepted room → IsWellFormed s → HasWeightsOf room s → IsMild room → NoneHeavy s.system.rows
 
 -- where no row of the scene is heavy, the row sums of all lower and of all upper ends are below one from depth 2 on, also in the loose form
 abbrev pub RowsStayBelowOne : Type 0
-RowsStayBelowOne = (room : Room) (s : Numbers) (n : ℕ) → IsAccepted room → IsWellFormed s → IsSceneOf room s → NoneHeavy s.system.rows → 2 ≤ n
-    → AreRowsBelowOne (radiosity n room).patches × AreRowsBelowOne (loose_radiosity n room).patches
+RowsStayBelowOne = (tables : List Table) (room : Room) (s : Numbers) (n : ℕ) → IsAccepted room → IsWellFormed s → HasWeightsOf room s → NoneHeavy s.system.rows → 2 ≤ n
+    → AreRowsBelowOne (radiosity n tables room).patches × AreRowsBelowOne (loose_radiosity n tables room).patches

@@ -1,12 +1,13 @@
 -- The radiosity equations of a room, enclosed at each depth n, and the loose form of them that says how far out the printed numbers
 -- may lie.
-use Rattle.std.specs.Prelude.{ℕ, ◌*◌, pos, true, length, slice_index_or}
+use Rattle.std.specs.Prelude.{ℕ, ◌*◌, pos, true, List, length, slice_index_or}
 use Rattle.fx_base.specs.Fraction.{whole, ratio}
 use Rattle.fx_base.specs.Interval.{Interval}
 use Rattle.room_layout.specs.Place.{Place, place_of}
 use Rattle.room_layout.specs.declared.geometry.Face.{Face}
 use Rattle.room_layout.specs.declared.geometry.Face.TheVariants.{Up}
 use Rattle.room_layout.specs.declared.room.Room.{Room}
+use Rattle.photo_table.specs.Table.{Table}
 use Rattle.patch_mesh.specs.Patches.{patches}
 use Rattle.patch_mesh.specs.TaskPoints.{task_points}
 use Rattle.patch_mesh.specs.declared.patch.Patch.{Patch}
@@ -49,33 +50,33 @@ coefficient_at n room p face j = coefficient n p face (patch_of room j) (is_clea
 abbrev pub loose_coefficient_at : ℕ → Room → Place → Face → ℕ → Interval
 loose_coefficient_at n room p face j = loose_coefficient n p face (patch_of room j) (is_clear room p (patch_place room j))
 
--- ---- the room at depth n
+-- ---- the room at depth n, with the exact tables of its files in their order
 
-abbrev pub radiosity : ℕ → Room → Radiosity
-radiosity n room = record {
+abbrev pub radiosity : ℕ → List Table → Room → Radiosity
+radiosity n tables room = record {
   patches = record {
     size = patch_count room;
     coefficient = λ i j. coefficient_at n room (patch_place room i) (patch_face room i) j;
-    direct = λ i. direct_light n room (patch_place room i) (patch_face room i);
+    direct = λ i. direct_light n tables room (patch_place room i) (patch_face room i);
   };
   points = room.task.nx * room.task.ny;
   covered = λ g. (task_point_of room g).covered;
   coefficient = λ g j. coefficient_at n room (task_point_place room g) Up j;
-  direct = λ g. direct_light n room (task_point_place room g) Up;
+  direct = λ g. direct_light n tables room (task_point_place room g) Up;
   move = whole 0;
 }
 
 -- the same, wider by stated amounts
-abbrev pub loose_radiosity : ℕ → Room → Radiosity
-loose_radiosity n room = record {
+abbrev pub loose_radiosity : ℕ → List Table → Room → Radiosity
+loose_radiosity n tables room = record {
   patches = record {
     size = patch_count room;
     coefficient = λ i j. loose_coefficient_at n room (patch_place room i) (patch_face room i) j;
-    direct = λ i. loose_direct_light n room (patch_place room i) (patch_face room i);
+    direct = λ i. loose_direct_light n tables room (patch_place room i) (patch_face room i);
   };
   points = room.task.nx * room.task.ny;
   covered = λ g. (task_point_of room g).covered;
   coefficient = λ g j. loose_coefficient_at n room (task_point_place room g) Up j;
-  direct = λ g. loose_direct_light n room (task_point_place room g) Up;
+  direct = λ g. loose_direct_light n tables room (task_point_place room g) Up;
   move = ratio 1 10000;
 }

@@ -2,13 +2,15 @@
 -- comments.
 use Rattle.std.specs.Prelude.{ℕ, ◌≡◌, ◌≤◌, ◌&&◌, nat_lt, List, [], ◌∷◌, None, true, false, refl}
 use Rattle.std.proofs.Common.{lit<, lit≤}
-use Rattle.fx_base.specs.Fraction.{at_most, ratio, whole, half_power, ◌≈ᶠ◌, ◌+ᶠ◌, ◌-ᶠ◌, ◌*ᶠ◌, ◌/ᶠ◌, sum_to}
+use Rattle.fx_base.specs.Fraction.{at_most, lesser, greater, ratio, whole, half_power, ◌≈ᶠ◌, ◌+ᶠ◌, ◌-ᶠ◌, ◌*ᶠ◌, ◌/ᶠ◌, sum_to}
 use Rattle.fx_base.specs.Interval.{exact}
+use Rattle.fx_base.specs.Units.{millionths}
 use Rattle.fx_base.specs.Root.{halved, root}
-use Rattle.fx_base.specs.Search.{root_digits, whole_root}
+use Rattle.fx_base.specs.Search.{greatest, root_digits, whole_root}
+use Rattle.series_enclose.specs.SeriesTests.{all_series}
 use Rattle.series_enclose.specs.Series.{upper_sum, lower_sum, power_over, arctan_term, one_fifth, one_of_239, pi}
 use Rattle.room_layout.specs.Place.{Place, in_front, squared_distance, task_place}
-use Rattle.room_layout.specs.declared.geometry.Face.TheVariants.{Up, Down, East}
+use Rattle.room_layout.specs.declared.geometry.Face.TheVariants.{Up, East}
 use Rattle.room_layout.specs.declared.room.Block.{Block}
 use Rattle.room_layout.specs.declared.room.Lamp.{Lamp}
 use Rattle.room_layout.specs.declared.room.Room.{Room}
@@ -19,22 +21,36 @@ use Rattle.patch_mesh.specs.Patches.{tiling_of, patch_at, row_patches, whole_row
 use Rattle.patch_mesh.specs.TaskPoints.{task_point, row_points, task_points}
 use Rattle.patch_mesh.specs.TaskPoints as points
 use Rattle.form_factor.specs.Coefficient.{kernel, fronts, coefficient}
-use Rattle.scene_system.specs.Light.{lamp_place, falloff, share_of, share, loosened, loose_intensity, loose_share, is_clear, lamp_light, loose_lamp_light, light_of_first, loose_light_of_first, direct_light, loose_direct_light}
+use Rattle.angle_bracket.specs.Direction.{less_angle, plus_angle, quarter_angle, in_quarter, angle_c, less_turn, brought, direction_c, direction_gamma}
+use Rattle.photo_table.specs.Angles.{turn_later}
+use Rattle.photo_table.specs.Axis.{behind, ahead, between, piece, along, extreme}
+use Rattle.photo_table.specs.Hull.{gamma_extreme, plane_extreme, hull}
+use Rattle.photo_table.specs.Table.{Table, plane, value, end_at, bilinear}
+use Rattle.direct_light.specs.Directions.{step_from}
+use Rattle.direct_light.specs.Lamps.{lamp_place}
+use Rattle.direct_light.specs.Shares.{falloff, share_of, loosened}
+use Rattle.scene_system.specs.Light.{is_clear, light_of_points, loose_light_of_points, light_of_first, loose_light_of_first, direct_light, loose_direct_light}
 use Rattle.scene_system.specs.Scene.{patch_count, patch_place, patch_face, task_point_place, radiosity, loose_radiosity}
 use Rattle.scene_system.specs.Assembled.{open_points}
-use Rattle.scene_system.specs.Causes.{candela_of, total_candela, IsCause, IsWithinLimits}
+use Rattle.scene_system.specs.Causes.{greatest_of, greatest_total, ticks_of, total_ticks, IsCause, IsWithinLimits}
 use Rattle.scene_system.specs.RowSums.{row_sum, slack, in_thousandths}
 use Rattle.scene_system.specs.declared.fault.SceneFault.TheVariants.{TotalIntensity, NoTaskPoint}
 
 -- fractions, roots, places and lamps
 unfoldable of_light : Unit {0}
-unfolding ratio whole half_power ◌+ᶠ◌ ◌-ᶠ◌ ◌*ᶠ◌ ◌/ᶠ◌ sum_to halved root root_digits whole_root in_front squared_distance is_blocked meets_box lamp_place falloff share_of loosened is_clear lamp_light loose_lamp_light light_of_first loose_light_of_first
+unfolding ratio whole half_power ◌+ᶠ◌ ◌-ᶠ◌ ◌*ᶠ◌ ◌/ᶠ◌ sum_to halved root root_digits whole_root in_front squared_distance is_blocked meets_box lamp_place falloff share_of loosened is_clear light_of_points loose_light_of_points light_of_first loose_light_of_first
 of_light = tt
 
 -- patches and task points
 unfoldable of_mesh : Unit {0}
 unfolding surfaces tiling_of patch_at row_patches whole_row first_rows tiling_patches tilings patches task_place task_point row_points points.whole_row points.first_rows task_points
 of_mesh = tt
+
+-- tables and directions
+unfoldable of_tables : Unit {0}
+unfolding all_series lesser greater millionths greatest turn_later behind ahead between piece along extreme plane value end_at bilinear gamma_extreme plane_extreme hull step_from
+    less_angle plus_angle quarter_angle in_quarter angle_c less_turn brought direction_c direction_gamma
+of_tables = tt
 
 -- pi and coefficients
 unfoldable of_weights : Unit {0}
@@ -74,6 +90,19 @@ furnished = cube_of 3000 0 (box ∷ []) (lamp_at 1500 1500 3000 2500 ∷ [])
 abbrev cube : Room
 cube = cube_of 2000 500 [] (lamp_at 1000 1000 1000 200 ∷ [])
 
+-- a third of a candela in all directions, and 200 candela straight down that are none at the height of the lamp
+abbrev third_table : Table
+unfolding ratio
+third_table = record { planes = 0 ∷ []; gammas = 0 ∷ 180000000 ∷ []; values = exact (ratio 1 3) ∷ exact (ratio 1 3) ∷ [] }
+
+abbrev down_table : Table
+unfolding whole
+down_table = record { planes = 0 ∷ []; gammas = 0 ∷ 90000000 ∷ []; values = exact (whole 200) ∷ exact (whole 0) ∷ [] }
+
+-- the cube with a lamp of the second of two files
+abbrev filed_cube : Room
+filed_cube = cube_of 2000 500 [] (record (lamp_at 1000 1000 1000 0) { shine = File 1 } ∷ [])
+
 -- only the ceiling reflects
 abbrev bright_ceiling : Room
 bright_ceiling = record cube { reflect = record { floor = 0; ceiling = 500; x0 = 0; x1 = 0; y0 = 0; y1 = 0 } }
@@ -83,88 +112,6 @@ floor = record { x = 3000; y = 3000; z = 0 }
 
 abbrev overhead : Place
 overhead = record { x = 3000; y = 3000; z = 6000 }
-
--- ---- the points of a lamp
-
--- 600 by 400 mm in two by two parts: 5,700 and 6,300 along x, 5,800 and 6,200 along y; along x first
-abbrev split_lamp : Lamp
-split_lamp = record { at = record { x = 3000; y = 3000; z = 3000 }; shine = Even 1; turn = 0; maintenance = 1000; size_x = 600; size_y = 400; split_x = 2; split_y = 2 }
-
-second_part : lamp_place split_lamp 1 ≡ record { x = 6300; y = 5800; z = 6000 }
-unfolding lamp_place
-second_part = refl
-
-third_part : lamp_place split_lamp 2 ≡ record { x = 5700; y = 6200; z = 6000 }
-unfolding lamp_place
-third_part = refl
-
--- ---- the light of one point
-
--- 5,000 cd at three quarters, 3 m away and straight above: 3750 / 9
-kept_light : falloff 750 1 6000 36000000 (whole 5000) (whole 6000) ≈ᶠ ratio 1250 3
-unfolding of_light
-kept_light = record { cross = refl }
-
--- one of two parts has half of it
-half_light : falloff 1000 2 6000 36000000 (whole 5000) (whole 6000) ≈ᶠ ratio 2500 9
-unfolding of_light
-half_light = record { cross = refl }
-
--- at half of the cosine, half of it: 3,000 half mm above the plane and 6,000 away
-slanted_light : falloff 1000 1 3000 36000000 (whole 5000) (whole 6000) ≈ᶠ ratio 2500 9
-unfolding of_light
-slanted_light = record { cross = refl }
-
--- 36,000,000 is a square: the upper end, which has the root's lower end, is exact, and the lower end has 6,001 in place of 6,000
-share_above : (share 0 (lamp_at 1500 1500 3000 5000) overhead floor Up true).hi ≈ᶠ ratio 5000 9
-unfolding of_light
-share_above = record { cross = refl }
-
-share_below : (share 0 (lamp_at 1500 1500 3000 5000) overhead floor Up true).lo ≈ᶠ (ratio 5000 9 *ᶠ ratio 6000 6001)
-unfolding of_light
-share_below = record { cross = refl }
-
--- a plane that faces down has none of a lamp above it
-share_behind : share 0 (lamp_at 1500 1500 3000 5000) overhead floor Down true ≡ exact (whole 0)
-unfolding share_of in_front
-share_behind = refl
-
--- nor has a lamp in the plane itself
-share_in_plane : share 0 (lamp_at 1500 1500 3000 5000) (record { x = 0; y = 0; z = 0 }) floor Up true ≡ exact (whole 0)
-unfolding share_of in_front
-share_in_plane = refl
-
-share_hidden : share 0 (lamp_at 1500 1500 3000 5000) overhead floor Up false ≡ exact (whole 0)
-unfolding share_of
-share_hidden = refl
-
--- ---- its loose form
-
-loose_candela : (loose_intensity (Even 1)).hi ≈ᶠ ratio 1073741825 1073741824
-unfolding of_light
-loose_candela = record { cross = refl }
-
-loosened_up : (loosened (exact (whole 16777216))).hi ≈ᶠ (whole 16777217 +ᶠ ratio 1 1048576)
-unfolding of_light
-loosened_up = record { cross = refl }
-
-loosened_down : (loosened (exact (whole 16777216))).lo ≈ᶠ (whole 16777215 -ᶠ ratio 1 1048576)
-unfolding of_light
-loosened_down = record { cross = refl }
-
--- nothing is kept at nothing below, and may be 2^-20 lux above
-nothing_below : (loosened (exact (whole 0))).lo.num ≡ 0
-unfolding of_light
-nothing_below = refl
-
-nothing_above : (loosened (exact (whole 0))).hi ≈ᶠ ratio 1 1048576
-unfolding of_light
-nothing_above = record { cross = refl }
-
--- a share that is hidden is loose too
-loose_hidden : (loose_share 0 (lamp_at 1500 1500 3000 5000) overhead floor Up false).hi ≈ᶠ ratio 1 1048576
-unfolding of_light
-loose_hidden = record { cross = refl }
 
 -- ---- sight, and all lamps
 
@@ -176,37 +123,43 @@ along_the_box : is_clear furnished (record { x = 0; y = 2000; z = 3000 }) (recor
 unfolding is_clear is_blocked meets_box
 along_the_box = refl
 
-light_through_the_box : (direct_light 0 furnished floor Up).hi.num ≡ 0
+light_through_the_box : (direct_light 0 [] furnished floor Up).hi.num ≡ 0
 unfolding of_light
 light_through_the_box = refl
 
 -- two lamps of 2,500 cd give what one of 5,000 cd gives
-light_of_two : (direct_light 0 two_lamps floor Up).hi ≈ᶠ ratio 5000 9
+light_of_two : (direct_light 0 [] two_lamps floor Up).hi ≈ᶠ ratio 5000 9
 unfolding of_light
 light_of_two = record { cross = refl }
 
 -- 5000 / 9 lux lies in the enclosure of depth 2, which is 0.0232 lux wide, and the loose form is wider on both sides
-light_at_depth_2 : (at_most (direct_light 2 two_lamps floor Up).lo (ratio 5000 9) && at_most (direct_light 2 two_lamps floor Up).hi ((direct_light 2 two_lamps floor Up).lo +ᶠ ratio 1 40)) ≡ true
+light_at_depth_2 : (at_most (direct_light 2 [] two_lamps floor Up).lo (ratio 5000 9) && at_most (direct_light 2 [] two_lamps floor Up).hi ((direct_light 2 [] two_lamps floor Up).lo +ᶠ ratio 1 40)) ≡ true
 unfolding of_light
 light_at_depth_2 = refl
 
-loose_light_at_depth_2 : (at_most (loose_direct_light 2 two_lamps floor Up).lo (direct_light 2 two_lamps floor Up).lo && at_most (direct_light 2 two_lamps floor Up).hi (loose_direct_light 2 two_lamps floor Up).hi) ≡ true
+loose_light_at_depth_2 : (at_most (loose_direct_light 2 [] two_lamps floor Up).lo (direct_light 2 [] two_lamps floor Up).lo && at_most (direct_light 2 [] two_lamps floor Up).hi (loose_direct_light 2 [] two_lamps floor Up).hi) ≡ true
 unfolding of_light
 loose_light_at_depth_2 = refl
 
+-- 200 candela straight down at 1 m: the upper end is exact, and the table of the first file has less
+light_of_the_second_file : (direct_light 0 (third_table ∷ down_table ∷ []) filed_cube (record { x = 2000; y = 2000; z = 0 }) Up).hi ≈ᶠ whole 200
+unfolding of_light of_tables
+light_of_the_second_file = record { cross = refl }
+
 -- ---- causes
 
-all_candela : total_candela two_lamps ≡ 5000
-all_candela = refl
+all_ticks : total_ticks [] two_lamps ≡ 343597383680000
+all_ticks = refl
 
--- a photometric file has no candela of its own
-candela_of_a_file : candela_of (record split_lamp { shine = File 0 }) ≡ 0
-candela_of_a_file = refl
+-- a file has the greatest of its table
+ticks_of_a_file : ticks_of (third_table ∷ []) (record (lamp_at 0 0 0 0) { shine = File 0 }) ≡ 22906492246
+unfolding greatest_of ratio whole
+ticks_of_a_file = refl
 
-too_bright : IsCause (cube_of 3000 0 [] (lamp_at 0 0 0 6000000 ∷ lamp_at 0 0 0 4000001 ∷ [])) TotalIntensity
+too_bright : IsCause [] (cube_of 3000 0 [] (lamp_at 0 0 0 6000000 ∷ lamp_at 0 0 0 4000001 ∷ [])) TotalIntensity
 too_bright = lit< tt
 
-just_not_too_bright : total_candela (cube_of 3000 0 [] (lamp_at 0 0 0 6000000 ∷ lamp_at 0 0 0 4000000 ∷ [])) ≤ 10000000
+just_not_too_bright : total_ticks [] (cube_of 3000 0 [] (lamp_at 0 0 0 6000000 ∷ lamp_at 0 0 0 4000000 ∷ [])) ≤ greatest_total
 just_not_too_bright = lit≤ tt
 
 -- the task of one point in the middle of the box
@@ -222,11 +175,11 @@ one_open : open_points (task_points (record covered { task = record { from_x = 1
 unfolding of_mesh
 one_open = refl
 
-no_task_point : IsCause covered NoTaskPoint
+no_task_point : IsCause [] covered NoTaskPoint
 unfolding of_mesh
 no_task_point = (lit≤ tt, lit≤ tt, refl)
 
-cube_within : IsWithinLimits cube
+cube_within : IsWithinLimits [] cube
 unfolding of_mesh
 cube_within = record { dim = lit≤ tt; few = lit≤ tt; some_open = lit< tt }
 
@@ -249,39 +202,39 @@ unfolding of_mesh
 middle_of_the_floor = refl
 
 -- one metre before the lamp of 200 cd: 200 lux on the floor and at its task point, and 2,000 is a whole root
-light_of_the_floor : ((radiosity 0 cube).patches.direct 0).hi ≈ᶠ whole 200
+light_of_the_floor : ((radiosity 0 [] cube).patches.direct 0).hi ≈ᶠ whole 200
 unfolding of_light of_mesh
 light_of_the_floor = record { cross = refl }
 
-light_of_the_point : ((radiosity 0 cube).direct 0).hi ≈ᶠ whole 200
+light_of_the_point : ((radiosity 0 [] cube).direct 0).hi ≈ᶠ whole 200
 unfolding of_light of_mesh
 light_of_the_point = record { cross = refl }
 
-nothing_to_itself : ((radiosity 0 cube).patches.coefficient 0 0).hi.num ≡ 0
+nothing_to_itself : ((radiosity 0 [] cube).patches.coefficient 0 0).hi.num ≡ 0
 unfolding of_light of_mesh of_weights
 nothing_to_itself = refl
 
-loose_to_itself : ((loose_radiosity 0 cube).patches.coefficient 0 0).hi ≈ᶠ half_power 32
+loose_to_itself : ((loose_radiosity 0 [] cube).patches.coefficient 0 0).hi ≈ᶠ half_power 32
 unfolding of_light of_mesh of_weights
 loose_to_itself = record { cross = refl }
 
 -- patch j lights patch i by the reflectance of j: the floor has light of the bright ceiling, and the ceiling none of the dark floor
-floor_of_the_ceiling : nat_lt 0 ((radiosity 0 bright_ceiling).patches.coefficient 0 1).lo.num ≡ true
+floor_of_the_ceiling : nat_lt 0 ((radiosity 0 [] bright_ceiling).patches.coefficient 0 1).lo.num ≡ true
 unfolding of_light of_mesh of_weights
 floor_of_the_ceiling = refl
 
-ceiling_of_the_floor : ((radiosity 0 bright_ceiling).patches.coefficient 1 0).hi.num ≡ 0
+ceiling_of_the_floor : ((radiosity 0 [] bright_ceiling).patches.coefficient 1 0).hi.num ≡ 0
 unfolding of_light of_mesh of_weights
 ceiling_of_the_floor = refl
 
 -- floor and ceiling at depth 0, where pi is 3.140596.. to 3.183263..: 1 / (2 (pi + 1)) from 0.1195239 to 0.1207556
-floor_and_ceiling : (at_most (ratio 119523 1000000) ((radiosity 0 cube).patches.coefficient 0 1).lo && at_most ((radiosity 0 cube).patches.coefficient 0 1).lo (ratio 119524 1000000)
-    && at_most (ratio 120755 1000000) ((radiosity 0 cube).patches.coefficient 0 1).hi && at_most ((radiosity 0 cube).patches.coefficient 0 1).hi (ratio 120756 1000000)) ≡ true
+floor_and_ceiling : (at_most (ratio 119523 1000000) ((radiosity 0 [] cube).patches.coefficient 0 1).lo && at_most ((radiosity 0 [] cube).patches.coefficient 0 1).lo (ratio 119524 1000000)
+    && at_most (ratio 120755 1000000) ((radiosity 0 [] cube).patches.coefficient 0 1).hi && at_most ((radiosity 0 [] cube).patches.coefficient 0 1).hi (ratio 120756 1000000)) ≡ true
 unfolding of_light of_mesh of_weights
 floor_and_ceiling = refl
 
 -- the task point on the floor's centre has the floor's coefficients
-point_and_ceiling : (at_most (ratio 119523 1000000) ((radiosity 0 cube).coefficient 0 1).lo && at_most ((radiosity 0 cube).coefficient 0 1).hi (ratio 120756 1000000)) ≡ true
+point_and_ceiling : (at_most (ratio 119523 1000000) ((radiosity 0 [] cube).coefficient 0 1).lo && at_most ((radiosity 0 [] cube).coefficient 0 1).hi (ratio 120756 1000000)) ≡ true
 unfolding of_light of_mesh of_weights
 point_and_ceiling = refl
 

@@ -1,44 +1,55 @@
 //! A room made into a scene.
-ghost use Rattle.std.specs.Prelude.{◌<◌, ◌≤◌, All, IfOk, IfErr};
-ghost use Rattle.room_layout.specs.Accepted.{IsAccepted, IsPlainLamp};
-ghost use Rattle.scene_system.specs.Assembled.{numbers, open_points, HasNearWeights, IsSceneOf, IsWellFormed};
-ghost use Rattle.scene_system.specs.Causes.{greatest_candela, total_candela, IsCause, IsWithinLimits};
+ghost use Rattle.std.specs.Prelude.{◌≡◌, ◌<◌, ◌≤◌, IfOk, IfErr, List, length};
+ghost use Rattle.room_layout.specs.Accepted.{IsAccepted};
+ghost use Rattle.photo_table.specs.Table.{Table};
+ghost use Rattle.scene_system.specs.Assembled.{numbers, open_points, HasNearWeights, HasWeightsOf, IsSceneOf, IsWellFormed};
+ghost use Rattle.scene_system.specs.Causes.{greatest_total, total_ticks, IsCause, IsWithinLimits};
 ghost use Rattle.scene_system.specs.Parts.{ArePatchesOf, AreTaskPointsOf};
+ghost use Rattle.scene_system.specs.Tables.{AreExactTables, AreKept, AreTablesOf};
 
 use crate::direct::{patch_lights, point_lights};
 use crate::fault::SceneFault;
-use crate::limits::{open_points, total_candela};
+use crate::limits::{open_points, total_ticks};
+use crate::points::points_of_lamps;
 use crate::scene::Scene;
 use crate::weights::{patch_rows, point_rows};
 use fx_base::Memory;
 use interval_system::IntervalSystem;
 use patch_mesh::{MeshFault, Patch, TaskPoint, mesh, task_points};
+use photo_table::PhotoTable;
 use room_layout::Room;
+use series_enclose::TangentTable;
 use std::alloc::Global;
 
-/// The greatest intensity of all lamps together, in candela.
-const GREATEST_CANDELA: u64 = 10_000_000;
+/// The greatest intensity of all lamps together, 10^7 cd, in ticks.
+const GREATEST_TOTAL: u128 = 687_194_767_360_000_000;
 
 /// The scene of a room with these patches and task points.
 fn scene_of(
     alloc: Global,
+    table: &TangentTable,
     room: &Room,
+    photos: &[PhotoTable],
     patches: Vec<Patch>,
     points: Vec<TaskPoint>,
 ) -> Result<Scene, Memory>
     requires accepted { IsAccepted room.now }
-    requires plain { All IsPlainLamp room.now.lamps }
-    requires dim { total_candela room.now ≤ greatest_candela }
+    requires photos { length photos.now ≡ length room.now.files }
+    requires kept { AreKept photos.now }
+    requires dim { total_ticks photos.now room.now ≤ greatest_total }
     requires patches { ArePatchesOf room.now patches.items }
     requires points { AreTaskPointsOf room.now points.items }
     requires some { 0 < open_points points.items }
-    ensures scene { IfOk result (λ s. IsSceneOf room.now (numbers s)) }
+    ensures scene { (tables : List Table) → AreTablesOf photos.now tables → IfOk result (λ s. IsSceneOf tables room.now (numbers s)) }
+    ensures weights { IfOk result (λ s. HasWeightsOf room.now (numbers s)) }
     ensures formed { IfOk result (λ s. IsWellFormed (numbers s)) }
 {
     let rows = patch_rows(alloc, room, patches.as_slice())?;
-    let direct = patch_lights(alloc, room, patches.as_slice())?;
     let point_rows = point_rows(alloc, room, patches.as_slice(), points.as_slice())?;
-    let point_direct = point_lights(alloc, room, points.as_slice())?;
+    let shining = points_of_lamps(alloc, room)?;
+    let lamps = shining.as_slice();
+    let direct = patch_lights(alloc, table, room, photos, lamps, patches.as_slice())?;
+    let point_direct = point_lights(alloc, table, room, photos, lamps, points.as_slice())?;
     let system = IntervalSystem::from_rows(rows, direct);
     // it is a system: a square of weights, with light for each row
     let _size = system.size();
@@ -51,18 +62,30 @@ fn scene_of(
     })
 }
 
-/// The scene of a room whose lamps shine evenly, each from one point.
+/// The scene of a room, where `photos` are the tables of its files, in their order. Its weights and its light meet the exact ones at
+/// every depth, whichever exact tables were rounded to `photos`.
 #[tactic(auto, using(crate::proofs::Rows::near_weights))]
-pub fn assemble(alloc: Global, room: &Room) -> Result<Scene, SceneFault>
+pub fn assemble(
+    alloc: Global,
+    table: &TangentTable,
+    room: &Room,
+    photos: &[PhotoTable],
+) -> Result<Scene, SceneFault>
     requires accepted { IsAccepted room.now }
-    requires plain { All IsPlainLamp room.now.lamps }
-    ensures scene { IfOk result (λ s. IsSceneOf room.now (numbers s)) }
+    requires photos { length photos.now ≡ length room.now.files }
+    ensures scene { (tables : List Table) → AreTablesOf photos.now tables → IfOk result (λ s. IsSceneOf tables room.now (numbers s)) }
+    ensures exact { (tables : List Table) → AreTablesOf photos.now tables → IfOk result (λ _. AreExactTables room.now tables) }
+    ensures weights { IfOk result (λ s. HasWeightsOf room.now (numbers s)) }
     ensures near { IfOk result (λ s. HasNearWeights room.now (numbers s)) }
     ensures formed { IfOk result (λ s. IsWellFormed (numbers s)) }
-    ensures within { IfOk result (λ _. IsWithinLimits room.now) }
-    ensures refused { IfErr result (λ fault. IsCause room.now fault) }
+    ensures within { (tables : List Table) → AreTablesOf photos.now tables → IfOk result (λ _. IsWithinLimits tables room.now) }
+    ensures refused { (tables : List Table) → AreTablesOf photos.now tables → IfErr result (λ fault. IsCause tables room.now fault) }
 {
-    if total_candela(room) > GREATEST_CANDELA {
+    let total = match total_ticks(alloc, room, photos) {
+        Ok(total) => total,
+        Err(_) => return Err(SceneFault::Memory),
+    };
+    if total > GREATEST_TOTAL {
         return Err(SceneFault::TotalIntensity);
     }
     let patches = match mesh(alloc, room) {
@@ -77,7 +100,7 @@ pub fn assemble(alloc: Global, room: &Room) -> Result<Scene, SceneFault>
     if open_points(points.as_slice()) == 0 {
         return Err(SceneFault::NoTaskPoint);
     }
-    match scene_of(alloc, room, patches, points) {
+    match scene_of(alloc, table, room, photos, patches, points) {
         Ok(scene) => Ok(scene),
         Err(_) => Err(SceneFault::Memory),
     }

@@ -2,8 +2,8 @@
 ghost use Rattle.scene_system.specs.Laws.{RadiosityIsInOrder};
 ghost use Rattle.scene_system.specs.RowSums.{HeavyHasCause, MildIsServed, NoneIsShownHeavy, RowsStayBelowOne};
 
-/// The enclosures of the coefficients and of the direct light of an accepted room aren't empty, at any depth, in the exact and in the
-/// loose form.
+/// The enclosures of the coefficients and of the direct light of an accepted room whose files have exact tables aren't empty, at any
+/// depth, in the exact and in the loose form.
 pub fn radiosity_is_in_order()
     ensures { RadiosityIsInOrder }
 {}

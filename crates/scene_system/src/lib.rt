@@ -8,6 +8,7 @@ mod fault;
 pub mod laws;
 mod light;
 mod limits;
+mod points;
 mod scene;
 mod sight;
 mod weights;

@@ -16,8 +16,6 @@ use patch_mesh::{Patch, TaskPoint};
 use room_layout::{Point, Room};
 use std::alloc::Global;
 
-const NOTHING: Weight = Weight { lo: 0, hi: 0 };
-
 /// The weight with which patch `b` lights patch `a`. Sight is asked only where something is handed on.
 fn patch_weight(room: &Room, a: &Patch, b: &Patch) -> Weight
     requires a { IsPatchIn largest_room a.now }
@@ -31,7 +29,7 @@ fn patch_weight(room: &Room, a: &Patch, b: &Patch) -> Weight
     if is_clear(room, a.centre, b.centre) {
         return open;
     }
-    NOTHING
+    Weight::NONE
 }
 
 /// The weight with which patch `b` lights a point that faces up.
@@ -47,7 +45,7 @@ fn point_weight(room: &Room, at: Point, b: &Patch) -> Weight
     if is_clear(room, at, b.centre) {
         return open;
     }
-    NOTHING
+    Weight::NONE
 }
 
 /// The weights with which the patches of the room light one of them.

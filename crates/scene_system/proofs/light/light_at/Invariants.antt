@@ -2,5 +2,5 @@ use Rattle.room_layout.specs.Place.{place_of}
 use Rattle.scene_system.proofs.Lights.{IsLightOfFirst}
 use Rattle.scene_system.proofs.light.light_at.Given as goal
 
-abbrev pub invariant-loop-lamp : goal.invariant-loop-lamp
-invariant-loop-lamp l = IsLightOfFirst l.room (place_of l.at) l.face l.lamp-index l.light
+abbrev pub invariant-loop-k : goal.invariant-loop-k
+invariant-loop-k l = IsLightOfFirst l.photos l.room (place_of l.at) l.face l.k l.light

@@ -1,25 +1,39 @@
-use Rattle.std.proofs.Common.{◌∙◌, sym}
-use Rattle.scene_system.proofs.Apart.{near_at, far_at}
-use Rattle.scene_system.proofs.Lamps.{behind_gives, hidden_gives, lamp_gives}
+use Rattle.std.proofs.Common.{◌+◌, ◌≡◌, length, arith}
+use Rattle.room_layout.specs.Place.{place_of}
+use Rattle.direct_light.specs.Lamps.{part_count}
+use Rattle.scene_system.proofs.Lights.{all_points, lamp_bounds, lamp_count, light_most, no_points, one_more_point, share_at}
 use Rattle.scene_system.proofs.light.light_of_lamp.Goals as goal
 
-pub returns-then-above-eq0-clause-light : goal.returns-then-above-eq0-clause-light
-returns-then-above-eq0-clause-light c = behind_gives c.args.room.now _ _ _ _ c.args.face c.args.lamp.now c.in-Even.candela _ _ c.in-Even.is c.requires.plain
-    c.position_of-here.ensures.place c.position_of-there.ensures.place c.lamp_point-from.ensures.place c.in_front-above.ensures.front c.if-above-eq0.true
-    c.whole.ensures.low c.whole.ensures.high
+pub loop-i-init : goal.loop-i-init
+loop-i-init c = no_points c.args.photos.now c.args.room.now (place_of c.args.at) c.args.face c.args.lamp.now c.whole-light.result c.whole-light.ensures.low c.whole-light.ensures.high
 
-pub returns-then-not-is_clear-clause-light : goal.returns-then-not-is_clear-clause-light
-returns-then-not-is_clear-clause-light c = hidden_gives c.args.room.now _ _ c.args.face c.args.lamp.now c.in-Even.candela _ c.in-Even.is c.requires.plain
-    c.lamp_point-from.ensures.place (sym c.is_clear.ensures ∙ c.if-not-is_clear.true) c.whole-then-not-is_clear.ensures.low c.whole-then-not-is_clear.ensures.high
+pub together-light-requires-clause-a_high : goal.together-light-requires-clause-a_high
+together-light-requires-clause-a_high c =
+    let count : length c.args.points.now ≡ part_count c.args.lamp.now = lamp_count c.args.lamp.now c.args.points.now c.requires.points in
+    let inside = c.loop-i-test.true in
+    light_most c.args.photos.now c.args.room.now (place_of c.args.at) c.args.face c.args.lamp.now c.loop-i.i c.loop-i.light c.requires.lamp (omega (arith, count, inside)) c.loop-i.invariant
 
-pub even_share-requires-clause-near : goal.even_share-requires-clause-near
-even_share-requires-clause-near c = near_at _ _ _ _ _ c.in_front-above.ensures.front c.squared_distance-squared.ensures.square
-
-pub even_share-requires-clause-apart : goal.even_share-requires-clause-apart
-even_share-requires-clause-apart c = far_at _ _ _ _ _ c.in_front-above.ensures.front c.squared_distance-squared.ensures.square c.if-above-eq0.false
+pub loop-i-preserved : goal.loop-i-preserved
+loop-i-preserved c =
+    let count : length c.args.points.now ≡ part_count c.args.lamp.now = lamp_count c.args.lamp.now c.args.points.now c.requires.points in
+    let inside = c.loop-i-test.true in
+    let bounds = lamp_bounds c.args.photos.now c.args.room.now c.args.lamp.now c.requires.lamp c.requires.photos c.requires.kept in
+    one_more_point c.args.photos.now c.args.room.now (place_of c.args.at) c.args.face c.args.lamp.now c.loop-i.light c.light_of_point-share.result c.together-light.result
+    c.loop-i.i (c.loop-i.i + 1) (omega arith) (bounds.0) (bounds.1) c.loop-i.invariant
+    (share_at c.args.photos.now c.args.room.now (place_of c.args.at) c.args.face c.args.lamp.now c.args.points.now c.loop-i.i _ c.light_of_point-share.result c.requires.points
+    (omega (arith, count, inside)) c.light_of_point-share.ensures.light)
+    c.together-light.ensures.low c.together-light.ensures.high
 
 pub returns-clause-light : goal.returns-clause-light
-returns-clause-light c = lamp_gives c.args.room.now _ _ _ _ c.args.face c.args.lamp.now c.in-Even.candela _ _ _ c.in-Even.is c.requires.plain
-    c.position_of-here.ensures.place c.position_of-there.ensures.place c.lamp_point-from.ensures.place c.in_front-above.ensures.front
-    c.squared_distance-squared.ensures.square c.if-above-eq0.false (sym c.is_clear.ensures ∙ c.if-not-is_clear.false)
-    c.even_share.ensures.meets c.even_share.ensures.near c.even_share.ensures.low c.even_share.ensures.most
+returns-clause-light c =
+    let count : length c.args.points.now ≡ part_count c.args.lamp.now = lamp_count c.args.lamp.now c.args.points.now c.requires.points in
+    let past = c.loop-i-test.false in
+    let most = c.loop-i.auto.i-end in
+    let bounds = lamp_bounds c.args.photos.now c.args.room.now c.args.lamp.now c.requires.lamp c.requires.photos c.requires.kept in
+    all_points c.args.photos.now c.args.room.now (place_of c.args.at) c.args.face c.args.lamp.now c.loop-i.i c.loop-i.light (omega (arith, count, past, most)) (bounds.0) c.loop-i.invariant
+
+pub returns-clause-high : goal.returns-clause-high
+returns-clause-high c =
+    let bounds = lamp_bounds c.args.photos.now c.args.room.now c.args.lamp.now c.requires.lamp c.requires.photos c.requires.kept in
+    let most = (returns-clause-light c).most in
+    omega (arith, most, bounds.1)

@@ -1,0 +1,103 @@
+-- The share of one point of a lamp as the program finds it.
+use Rattle.std.proofs.Common.{ℕ, ◌+◌, ◌*◌, ◌<◌, ◌≤◌, ◌≡◌, pos, ◌≤ℤ◌, Bool, true, false, List, length, arith, refl, sym, ◌∙◌}
+use Rattle.std.proofs.lemmas.Int.{ints}
+use Rattle.fx_base.specs.Ends.{Ends}
+use Rattle.fx_base.specs.Fraction.{Fraction, ◌≤ᶠ◌, ◌+ᶠ◌, ◌*ᶠ◌, half_power, ratio, whole}
+use Rattle.fx_base.specs.Interval.{Interval, LiesIn, Meets, exact, outward}
+use Rattle.fx_base.specs.Units.{natural, of_span, ticks}
+use Rattle.fx_base.proofs.Order.{le_trans_f, sub_le_f, zero_le_f}
+use Rattle.fx_base.proofs.Sums.{no_ticks}
+use Rattle.room_layout.specs.Accepted.{IsShine}
+use Rattle.room_layout.specs.Place.{Place, in_front}
+use Rattle.room_layout.specs.declared.geometry.Face.{Face}
+use Rattle.room_layout.specs.declared.room.Lamp.{Lamp}
+use Rattle.room_layout.specs.declared.room.Shine.{Shine}
+use Rattle.room_layout.specs.declared.room.Shine.TheVariants.{Even, File}
+use Rattle.photo_table.specs.Kept.{IsGreatest}
+use Rattle.photo_table.specs.Laws.{StandsFor}
+use Rattle.photo_table.specs.Table.{Table, upper}
+use Rattle.photo_table.proofs.Exactly.{rounded_stands}
+use Rattle.direct_light.specs.Directions.{loose_seen, seen}
+use Rattle.direct_light.specs.Lamps.{part_count}
+use Rattle.direct_light.specs.Shares.{intensity, loose_intensity, loosened, share_of, table_at}
+use Rattle.scene_system.specs.Causes.{greatest_ticks}
+use Rattle.scene_system.specs.Positions.{IsShare}
+use Rattle.scene_system.specs.Tables.{AreKept}
+use Rattle.scene_system.proofs.Kept.{kept_at}
+
+-- ---- a lamp of a file
+
+shine_at : (files k : ℕ) (s : Shine) → s ≡ File k → IsShine files s → k < files
+shine_at files k s e is = rw e at is
+
+pub shine_inside : (photos : List Table) (files : ℕ) (l : Lamp) (k : ℕ) → length photos ≡ files → IsShine files l.shine → l.shine ≡ File k → k < length photos
+shine_inside photos files l k count is e = omega (arith, count, shine_at files k l.shine e is)
+
+pub file_share : (photos : List Table) (l : Lamp) (q p : Place) (face : Face) (clear : Bool) (k : ℕ) (d : Ends) → l.shine ≡ File k → k < length photos → AreKept photos
+    → ((t : Table) → StandsFor (table_at photos k) t → (n : ℕ) → Meets (of_span d) (share_of n (seen n t l q p) l q p face clear))
+    → ((t : Table) → StandsFor (table_at photos k) t → (n : ℕ) → LiesIn (of_span d) (loosened (share_of n (loose_seen n t l q p) l q p face clear)))
+    → pos 0 ≤ℤ d.lo
+    → ((m : ℕ) → IsGreatest upper (table_at photos k) (ticks m) → natural d.hi * part_count l ≤ (m + 1) * 4000000 + 2 * part_count l)
+    → IsShare photos l q p face clear d
+unfolding share_of
+file_share photos l q p face clear k d e inside kept meets near low most = record {
+  meets = λ tables are n. rw e (meets (table_at tables k) (rounded_stands (table_at photos k) (table_at tables k) (are.each k inside)) n);
+  near = λ tables are n. rw e (near (table_at tables k) (rounded_stands (table_at photos k) (table_at tables k) (are.each k inside)) n);
+  low = low;
+  most = rw e (most (greatest_ticks (table_at photos k)) (kept_at photos k kept inside).greatest);
+}
+
+-- ---- a lamp that shines evenly
+
+pub even_share : (photos : List Table) (l : Lamp) (q p : Place) (face : Face) (clear : Bool) (candela : ℕ) (d : Ends) → l.shine ≡ Even candela
+    → ((n : ℕ) → Meets (of_span d) (share_of n (exact (whole candela)) l q p face clear))
+    → ((n : ℕ) → LiesIn (of_span d) (loosened (share_of n (outward (half_power 30) (exact (whole candela))) l q p face clear)))
+    → pos 0 ≤ℤ d.lo → natural d.hi * part_count l ≤ candela * 68719476736 * 4000000 + 2 * part_count l → IsShare photos l q p face clear d
+unfolding share_of
+even_share photos l q p face clear candela d e meets near low most = record {
+  meets = λ tables are n. rw e (meets n);
+  near = λ tables are n. rw e (near n);
+  low = low;
+  most = rw e (omega (arith, most));
+}
+
+-- ---- a point that gives nothing
+
+share_behind : (n : ℕ) (i : Interval) (l : Lamp) (q p : Place) (face : Face) (clear : Bool) → in_front face p q ≡ 0 → share_of n i l q p face clear ≡ exact (whole 0)
+unfolding share_of
+share_behind n i l q p face true h = rw h refl
+share_behind n i l q p face false h = refl
+
+share_hidden : (n : ℕ) (i : Interval) (l : Lamp) (q p : Place) (face : Face) (clear : Bool) → clear ≡ false → share_of n i l q p face clear ≡ exact (whole 0)
+unfolding share_of
+share_hidden n i l q p face clear e = rw e refl
+
+nothing_times : (a : Fraction) → (whole 0 *ᶠ a) ≤ᶠ whole 0
+unfolding whole ◌*ᶠ◌
+nothing_times a = record { cross = omega arith }
+
+loose_nothing : LiesIn (exact (ticks 0)) (loosened (exact (whole 0)))
+unfolding loosened
+loose_nothing = record {
+  lower = sub_le_f (whole 0 *ᶠ ratio 16777215 16777216) (half_power 20) (le_trans_f (nothing_times (ratio 16777215 16777216)) (zero_le_f (ticks 0 +ᶠ half_power 20)));
+  upper = le_trans_f (no_ticks.0) (zero_le_f (whole 0 *ᶠ ratio 16777217 16777216 +ᶠ half_power 20));
+}
+
+-- a span of no ticks, where every share of the point is nothing
+dark : (photos : List Table) (l : Lamp) (q p : Place) (face : Face) (clear : Bool) (d : Ends) → ((n : ℕ) (i : Interval) → share_of n i l q p face clear ≡ exact (whole 0))
+    → d.lo ≡ pos 0 → d.hi ≡ pos 0 → IsShare photos l q p face clear d
+dark photos l q p face clear d none low high = record {
+  meets = λ tables are n. rw (none n (intensity n tables l q p), low, high) (record { above = no_ticks.0; below = no_ticks.1 });
+  near = λ tables are n. rw (none n (loose_intensity n tables l q p), low, high) loose_nothing;
+  low = rw low (omega (arith, ints));
+  most = rw high (omega arith);
+}
+
+pub behind_share : (photos : List Table) (l : Lamp) (q p h t : Place) (face : Face) (clear : Bool) (above : ℕ) (d : Ends) → h ≡ p → t ≡ q → above ≡ in_front face h t → above ≡ 0
+    → d.lo ≡ pos 0 → d.hi ≡ pos 0 → IsShare photos l q p face clear d
+behind_share photos l q p h t face clear above d a b f none low high =
+    dark photos l q p face clear d (λ n i. share_behind n i l q p face clear (rw (a, b) at (sym f ∙ none))) low high
+
+pub hidden_share : (photos : List Table) (l : Lamp) (q p : Place) (face : Face) (clear : Bool) (d : Ends) → clear ≡ false → d.lo ≡ pos 0 → d.hi ≡ pos 0
+    → IsShare photos l q p face clear d
+hidden_share photos l q p face clear d hidden low high = dark photos l q p face clear d (λ n i. share_hidden n i l q p face clear hidden) low high
