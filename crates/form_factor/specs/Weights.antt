@@ -1,7 +1,7 @@
 -- What a weight in ticks says of a coefficient.
 use Rattle.std.specs.Prelude.{ℕ, ◌+◌, ◌≤◌, ◌≡◌, ◌^◌, Bool, false}
 use Rattle.fx_base.specs.Fraction.{◌≤ᶠ◌}
-use Rattle.fx_base.specs.Units.{no_weight, of_weight, ticks}
+use Rattle.fx_base.specs.Units.{no_weight, ticks}
 use Rattle.fx_base.specs.declared.weight.Weight.{Weight}
 use Rattle.room_layout.specs.Place.{Place, place_of}
 use Rattle.room_layout.specs.declared.geometry.Face.{Face}

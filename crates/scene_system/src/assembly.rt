@@ -85,7 +85,8 @@ pub fn assemble(
         Ok(total) => total,
         Err(_) => return Err(SceneFault::Memory),
     };
-    if total > GREATEST_TOTAL {
+    let too_bright = total > GREATEST_TOTAL;
+    if too_bright {
         return Err(SceneFault::TotalIntensity);
     }
     let patches = match mesh(alloc, room) {

@@ -42,8 +42,8 @@ fn open_light(
     match lamp.shine {
         Shine::Even(candela) => even_light(candela, lamp, from, at, face, true),
         Shine::File(number) => {
-            let photo = &photos[number as usize];
-            direct(table, photo, lamp, from, at, face, true)
+            let file = number as usize;
+            direct(table, &photos[file], lamp, from, at, face, true)
         }
     }
 }
@@ -145,10 +145,8 @@ pub fn light_at(
     for k in 0..points.len() {
         let lamp = &lamps[k];
         let all = points[k].points.as_slice();
-        light = together(
-            light,
-            light_of_lamp(table, room, photos, lamp, all, at, face),
-        );
+        let one = light_of_lamp(table, room, photos, lamp, all, at, face);
+        light = together(light, one);
     }
     // its ends are in order
     let _lower = light.lo();

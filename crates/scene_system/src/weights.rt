@@ -9,36 +9,20 @@ ghost use Rattle.scene_system.specs.Parts.{ArePatchesOf, AreTaskPointsOf, AreRow
 ghost use Rattle.scene_system.specs.Scene.{patch_count, patch_face, patch_place, task_point_place};
 
 use crate::sight::is_clear;
-use form_factor::{factor, point_factor};
+use form_factor::factor;
 use fx_base::{Memory, Weight};
 use interval_system::Row;
 use patch_mesh::{Patch, TaskPoint};
-use room_layout::{Point, Room};
+use room_layout::{Face, Point, Room};
 use std::alloc::Global;
 
-/// The weight with which patch `b` lights patch `a`. Sight is asked only where something is handed on.
-fn patch_weight(room: &Room, a: &Patch, b: &Patch) -> Weight
-    requires a { IsPatchIn largest_room a.now }
-    requires b { IsPatchIn largest_room b.now }
-    ensures { IsCoefficient (place_of a.now.centre) a.now.face b.now (is_clear room.now (place_of a.now.centre) (place_of b.now.centre)) result }
-{
-    let open = factor(a, b, true);
-    if open.hi == 0 {
-        return open;
-    }
-    if is_clear(room, a.centre, b.centre) {
-        return open;
-    }
-    Weight::NONE
-}
-
-/// The weight with which patch `b` lights a point that faces up.
-fn point_weight(room: &Room, at: Point, b: &Patch) -> Weight
+/// The weight with which patch `b` lights a plane with this face at a point. Sight is asked only where something is handed on.
+fn weight_at(room: &Room, at: Point, face: Face, b: &Patch) -> Weight
     requires at { IsPointIn largest_room at }
     requires b { IsPatchIn largest_room b.now }
-    ensures { IsCoefficient (place_of at) Up b.now (is_clear room.now (place_of at) (place_of b.now.centre)) result }
+    ensures { IsCoefficient (place_of at) face b.now (is_clear room.now (place_of at) (place_of b.now.centre)) result }
 {
-    let open = point_factor(at, b, true);
+    let open = factor(at, face, b, true);
     if open.hi == 0 {
         return open;
     }
@@ -48,28 +32,21 @@ fn point_weight(room: &Room, at: Point, b: &Patch) -> Weight
     Weight::NONE
 }
 
-/// The weights with which the patches of the room light one of them.
-fn patch_row(alloc: Global, room: &Room, patches: &[Patch], a: &Patch) -> Result<Row, Memory>
-    requires patches { ArePatchesOf room.now patches.now }
-    requires a { IsPatchIn largest_room a.now }
-    ensures { IfOk result (λ row. IsRowAt room.now (place_of a.now.centre) a.now.face row) }
-{
-    let mut row = Row::new(alloc, patches.len())?;
-    for j in 0..patches.len() {
-        row.put(j, patch_weight(room, a, &patches[j]));
-    }
-    Ok(row)
-}
-
-/// The weights with which the patches of the room light a point that faces up.
-fn point_row(alloc: Global, room: &Room, patches: &[Patch], at: Point) -> Result<Row, Memory>
+/// The weights with which the patches of the room light a plane with this face at a point.
+fn row_at(
+    alloc: Global,
+    room: &Room,
+    patches: &[Patch],
+    at: Point,
+    face: Face,
+) -> Result<Row, Memory>
     requires patches { ArePatchesOf room.now patches.now }
     requires at { IsPointIn largest_room at }
-    ensures { IfOk result (λ row. IsRowAt room.now (place_of at) Up row) }
+    ensures { IfOk result (λ row. IsRowAt room.now (place_of at) face row) }
 {
     let mut row = Row::new(alloc, patches.len())?;
     for j in 0..patches.len() {
-        row.put(j, point_weight(room, at, &patches[j]));
+        row.put(j, weight_at(room, at, face, &patches[j]));
     }
     Ok(row)
 }
@@ -81,7 +58,8 @@ pub fn patch_rows(alloc: Global, room: &Room, patches: &[Patch]) -> Result<Vec<R
 {
     let mut rows = Vec::new(alloc);
     for i in 0..patches.len() {
-        let row = patch_row(alloc, room, patches, &patches[i])?;
+        let patch = &patches[i];
+        let row = row_at(alloc, room, patches, patch.centre, patch.face)?;
         rows.push(row)?;
     }
     Ok(rows)
@@ -100,7 +78,7 @@ pub fn point_rows(
 {
     let mut rows = Vec::new(alloc);
     for g in 0..points.len() {
-        let row = point_row(alloc, room, patches, points[g].at)?;
+        let row = row_at(alloc, room, patches, points[g].at, Face::Up)?;
         rows.push(row)?;
     }
     Ok(rows)

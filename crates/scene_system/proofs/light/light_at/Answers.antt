@@ -16,7 +16,7 @@ loop-k-preserved c =
     let test = c.loop-k-test.true in
     let inside : c.loop-k.k < length c.args.room.now.lamps = omega (arith, size, test) in
     let lamp = All-get_or (IsLampIn c.args.room.now.size (length c.args.room.now.files)) c.args.room.now.lamps c.loop-k.k no_lamp inside c.requires.accepted.each_lamp in
-    one_more_light c.args.photos.now c.args.room.now (place_of c.args.at) c.args.face c.loop-k.light c.light_of_lamp.result c.together-light.result
+    one_more_light c.args.photos.now c.args.room.now (place_of c.args.at) c.args.face c.loop-k.light c.light_of_lamp-one.result c.together-light.result
     c.loop-k.k (c.loop-k.k + 1) (omega arith) inside
     ((parts_of c.args.room.now.size (length c.args.room.now.files) (slice_index_or c.args.room.now.lamps c.loop-k.k no_lamp) lamp).1) c.loop-k.invariant
-    (rw c.as_slice-lamps.ensures at c.light_of_lamp.ensures.light) c.light_of_lamp.ensures.high c.together-light.ensures.low c.together-light.ensures.high
+    (rw c.as_slice-lamps.ensures at c.light_of_lamp-one.ensures.light) c.light_of_lamp-one.ensures.high c.together-light.ensures.low c.together-light.ensures.high
