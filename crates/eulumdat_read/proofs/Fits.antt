@@ -11,10 +11,9 @@ use Rattle.symmetry_expand.specs.Stored.{multiple_of, stored_count}
 use Rattle.eulumdat_read.specs.declared.fault.LdtFault.TheVariants as fault
 use Rattle.eulumdat_read.specs.Grammar.{AreStored, Counts, FitsLdt, HasFlux, IsBlank, LdtIsFit, RunAsNeeded, SayAngles, SayIntensities, SaysIn, indicator}
 use Rattle.eulumdat_read.specs.Items.{all_blank, angles_at, count_at, demand, fluxes_at, measured_at, values_at}
-use Rattle.eulumdat_read.specs.Ldt.{Head, LdtFile, body_of, end_line, gammas_line, head_of, ldt, planes_line, stored_angles, symmetry_by, value_count, values_line}
-use Rattle.eulumdat_read.proofs.BodySteps.{ends_fit, factor_of}
+use Rattle.eulumdat_read.specs.Ldt.{Head, LdtFile, body_of, flux_at, planes_at, run_well, end_line, gammas_line, head_of, ldt, planes_line, stored_angles, symmetry_by, value_count, values_line}
 use Rattle.eulumdat_read.proofs.Said.{count_of, in_of, of_count, of_in}
-use Rattle.eulumdat_read.proofs.SaidPlanes.{measured_of, says_stored, stored_says}
+use Rattle.eulumdat_read.proofs.SaidPlanes.{Stored, measured_of, says_stored, stored_says}
 use Rattle.eulumdat_read.proofs.SaidRuns.{angles_of, blanks_of, flux_is, flux_of, fluxes_from, intensities_of, of_angles, of_blanks, of_intensities}
 use Rattle.eulumdat_read.proofs.Steps.{both_gave, gives_both, held, ok_of}
 
@@ -114,51 +113,80 @@ of_rest lines e some h =
     let s : e - 1 + i ≡ e + i - 1 = omega arith in
     rw (get_or-drop (e - 1) lines i [], s) a)
 
+-- the flux of the chosen set, all sets having one
+lit_of : (lines : List (List ℕ)) (sets set flux : ℕ) → 1 ≤ set → set ≤ sets → flux_at lines sets set ≡ Ok flux
+    → ((k : ℕ) → 1 ≤ k → k ≤ sets → (n : ℕ) × HasFlux lines k n) × HasFlux lines set flux
+unfolding flux_at
+lit_of lines sets set flux some few e =
+    let a = both_gave (fluxes_at lines 29 [] sets) _ flux e in
+    let P : ℕ → Type 0 = λ n. HasFlux lines set n in
+    (λ k p q. (slice_index_or a.0 (k - 1) 0, flux_of lines sets a.0 a.1 k p q), subst P (ok_of (slice_index_or a.0 (set - 1) 0) flux a.2) (flux_of lines sets a.0 a.1 set some few))
+
+of_lit : (lines : List (List ℕ)) (sets set flux : ℕ) → 1 ≤ set → set ≤ sets → ((k : ℕ) → 1 ≤ k → k ≤ sets → (n : ℕ) × HasFlux lines k n) → HasFlux lines set flux
+    → flux_at lines sets set ≡ Ok flux
+unfolding flux_at
+of_lit lines sets set flux some few lit h =
+    let xs = fluxes_from lines sets 29 [] (λ i p. let s : 23 + 6 * (i + 1) ≡ 29 + 6 * i = omega arith in rw s at (lit (i + 1) (omega arith) (omega arith))) in
+    rw xs.1 (ap Ok (flux_is lines sets xs.0 xs.1 set flux some few h))
+
+-- the stored planes, and all angles C
+stored_of : (lines : List (List ℕ)) (set : ℕ) (h : Head) → IsHeaded lines set h → (planes : List Micro) → planes_at lines h ≡ Ok planes
+    → (angles : List Micro) × SayAngles lines (planes_line h) h.planes 359999999 angles × Stored h.symmetry angles planes
+unfolding planes_at
+stored_of lines set h g planes e =
+    let b = both_gave (angles_at lines (planes_line h) 359999999 0 [] h.planes) _ planes e in
+    let all = stored_angles h.symmetry h.planes b.0 in
+    let c = both_gave (demand (run_well h.symmetry all) (fault.Expand expand.PlaneAngle)) (λ _. Ok all) planes b.2 in
+    let said = angles_of lines (planes_line h) h.planes 359999999 b.0 b.1 in
+    let many = g.planes_are.least in
+    let s = says_stored h.symmetry h.planes b.0 (measured_of lines (planes_line h) h.planes 359999999 360000000 b.0 (omega arith) said) (omega arith) g.planes_fit
+    (held (run_well h.symmetry all) (fault.Expand expand.PlaneAngle) c.0 c.1) in
+    let P : List Micro → Type 0 = λ ps. Stored h.symmetry b.0 ps in
+    (b.0, said, subst P (ok_of all planes c.2) s)
+
+of_stored : (lines : List (List ℕ)) (set : ℕ) (h : Head) → IsHeaded lines set h → (angles planes : List Micro) → SayAngles lines (planes_line h) h.planes 359999999 angles
+    → Stored h.symmetry angles planes → planes_at lines h ≡ Ok planes
+unfolding planes_at
+of_stored lines set h g angles planes said s =
+    let many = g.planes_are.least in
+    let t = stored_says h.symmetry h.planes angles planes (measured_of lines (planes_line h) h.planes 359999999 360000000 angles (omega arith) said) (omega arith) g.planes_fit s in
+    rw (of_angles lines (planes_line h) h.planes 359999999 angles said, t.0, t.1) refl
+
 bodied_of : (lines : List (List ℕ)) (set : ℕ) (h : Head) (f : LdtFile) → 1 ≤ set → IsHeaded lines set h → body_of lines set h ≡ Ok f → IsBodied lines set h f
 unfolding body_of
 bodied_of lines set h f some g e =
-    let a = both_gave (fluxes_at lines 29 [] h.sets) _ f e in
-    let b = both_gave (angles_at lines (planes_line h) 359999999 0 [] h.planes) _ f a.2 in
-    let c = both_gave (demand (ends_fit h b.0) (fault.Expand expand.PlaneAngle)) _ f b.2 in
-    let d = both_gave (angles_at lines (gammas_line h) 180000000 0 [] h.gammas) _ f c.2 in
-    let v = both_gave (values_at lines (values_line h) (factor_of h set a.0) [] (value_count h)) _ f d.2 in
+    let a = both_gave (flux_at lines h.sets set) _ f e in
+    let b = both_gave (planes_at lines h) _ f a.2 in
+    let d = both_gave (angles_at lines (gammas_line h) 180000000 0 [] h.gammas) _ f b.2 in
+    let v = both_gave (values_at lines (values_line h) (h.factor * a.0) [] (value_count h)) _ f d.2 in
     let r = both_gave (all_blank (end_line h) (drop (end_line h - 1) lines)) _ f v.2 in
-    let ends = held (ends_fit h b.0) (fault.Expand expand.PlaneAngle) c.0 c.1 in
-    let said = angles_of lines (planes_line h) h.planes 359999999 b.0 b.1 in
-    let many = g.planes_are.least in
-    let s = says_stored h.symmetry h.planes b.0 (measured_of lines (planes_line h) h.planes 359999999 360000000 b.0 (omega arith) said) (omega arith) g.planes_fit ends in
+    let l = lit_of lines h.sets set a.0 some g.chosen a.1 in
+    let s = stored_of lines set h g b.0 b.1 in
     let P : LdtFile → Type 0 = λ t. IsBodied lines set h t in
-    subst P (ok_of (record { symmetry = h.symmetry; planes = stored_angles h.symmetry h.planes b.0; gammas = d.0; values = v.0 }) f r.2) (record {
-      flux = slice_index_or a.0 (set - 1) 0;
-      angles = b.0;
+    subst P (ok_of (record { symmetry = h.symmetry; planes = b.0; gammas = d.0; values = v.0 }) f r.2) (record {
+      flux = a.0;
+      angles = s.0;
       same = refl;
-      lit = λ k p q. (slice_index_or a.0 (k - 1) 0, flux_of lines h.sets a.0 a.1 k p q);
-      flux_is = flux_of lines h.sets a.0 a.1 set some g.chosen;
-      angles_are = said;
-      stored = s.0;
-      run = s.1;
+      lit = l.0;
+      flux_is = l.1;
+      angles_are = s.1;
+      stored = s.2.0;
+      run = s.2.1;
       gamma_angles = angles_of lines (gammas_line h) h.gammas 180000000 d.0 d.1;
-      values = intensities_of lines (values_line h) (stored_count h.symmetry h.planes) h.gammas (factor_of h set a.0) v.0 v.1;
+      values = intensities_of lines (values_line h) (stored_count h.symmetry h.planes) h.gammas (h.factor * a.0) v.0 v.1;
       rest = rest_of lines (end_line h) (omega arith) r.1;
     })
 
 of_bodied : (lines : List (List ℕ)) (set : ℕ) (h : Head) (f : LdtFile) → 1 ≤ set → IsHeaded lines set h → IsBodied lines set h f → body_of lines set h ≡ Ok f
 unfolding body_of
 of_bodied lines set h f some g b =
-    let xs = fluxes_from lines h.sets 29 [] (λ i p. let s : 23 + 6 * (i + 1) ≡ 29 + 6 * i = omega arith in rw s at (b.lit (i + 1) (omega arith) (omega arith))) in
-    let flux : slice_index_or xs.0 (set - 1) 0 ≡ b.flux = flux_is lines h.sets xs.0 xs.1 set b.flux some g.chosen b.flux_is in
-    let many = g.planes_are.least in
     let two = g.gammas_are.least in
-    let s = stored_says h.symmetry h.planes b.angles f.planes (measured_of lines (planes_line h) h.planes 359999999 360000000 b.angles (omega arith) b.angles_are) (omega arith) g.planes_fit (b.stored, b.run) in
     let file : record { symmetry = h.symmetry; planes = f.planes; gammas = f.gammas; values = f.values } ≡ f =
     ap (λ x. let t : LdtFile = record { symmetry = x; planes = f.planes; gammas = f.gammas; values = f.values } in t) (sym b.same) in
     rw (
-      xs.1,
-      of_angles lines (planes_line h) h.planes 359999999 b.angles b.angles_are,
-      s.0,
-      s.1,
+      of_lit lines h.sets set b.flux some g.chosen b.lit b.flux_is,
+      of_stored lines set h g b.angles f.planes b.angles_are (b.stored, b.run),
       of_angles lines (gammas_line h) h.gammas 180000000 f.gammas b.gamma_angles,
-      flux,
       of_intensities lines (values_line h) (stored_count h.symmetry h.planes) h.gammas (h.factor * b.flux) f.values (omega arith) b.values,
       of_rest lines (end_line h) (omega arith) b.rest,
     ) (ap Ok file)

@@ -1,5 +1,5 @@
 -- The stored planes in the words of the grammar.
-use Rattle.std.proofs.Common.{ℕ, zero, suc, ◌+◌, ◌-◌, ◌*◌, ◌/◌, ◌%◌, ◌<◌, ◌≤◌, ◌≡◌, ◌<ℤ◌, ◌-ℤ◌, ℤ, pos, negsuc, Bool, true, ◌&&◌, List, ◌++◌, length, map, take, drop, slice_index_or, inl, inr, refl, ap, sym, subst, ◌∙◌, arith}
+use Rattle.std.proofs.Common.{ℕ, zero, suc, ◌+◌, ◌-◌, ◌*◌, ◌/◌, ◌%◌, ◌<◌, ◌≤◌, ◌≡◌, ◌<ℤ◌, ◌-ℤ◌, ℤ, pos, negsuc, true, ◌&&◌, List, ◌++◌, length, map, take, drop, slice_index_or, inl, inr, refl, ap, sym, subst, ◌∙◌, arith}
 use Rattle.std.specs.Ordering.{int_eq}
 use Rattle.std.proofs.Math.ListN.{length-map}
 use Rattle.std.proofs.Math.Seq.{take-length}
@@ -12,11 +12,11 @@ use Rattle.fx_base.proofs.Truth.{both_true}
 use Rattle.photo_table.specs.Kept.{angle_of}
 use Rattle.symmetry_expand.specs.declared.symmetry.Symmetry.{Symmetry}
 use Rattle.symmetry_expand.specs.declared.symmetry.Symmetry.TheVariants as symmetry
-use Rattle.symmetry_expand.specs.Measured.{first_angle, last_angle, no_angle, runs_as_needed}
+use Rattle.symmetry_expand.specs.Measured.{first_angle, last_angle, no_angle}
 use Rattle.symmetry_expand.specs.Stored.{multiple_of, stored_count}
 use Rattle.symmetry_expand.proofs.Planes.{natural_is}
 use Rattle.eulumdat_read.specs.Grammar.{AreStored, Run, RunAsNeeded, SayAngles, angle, less_a_turn}
-use Rattle.eulumdat_read.specs.Ldt.{stored_angles}
+use Rattle.eulumdat_read.specs.Ldt.{run_well, stored_angles}
 use Rattle.eulumdat_read.specs.Runs.{AreAngles}
 use Rattle.eulumdat_read.proofs.StoredPlanes.{AreFirst, AreTurned, are_turned, axis_first, both_first, early_is, late_is, none_first, plane0_first, stored_get, stored_length}
 
@@ -136,11 +136,8 @@ both_ends a b ps h =
     ((Decides-int_eq (first_angle ps) a).0 t.0, (Decides-int_eq (last_angle ps) b).0 t.1)
 
 -- what is said of stored planes, of all angles C
-abbrev Stored : Symmetry → List Micro → List Micro → Type 0
+abbrev pub Stored : Symmetry → List Micro → List Micro → Type 0
 Stored s xs ps = AreStored s xs ps × RunAsNeeded s ps
-
-abbrev run_well : Symmetry → List Micro → Bool
-run_well s ps = runs_as_needed s (first_angle ps) (last_angle ps)
 
 turned_stored : (m : ℕ) (xs : List Micro) → AreAngles (4 * m) 360000000 xs → 1 ≤ m → run_well symmetry.Plane90 (stored_angles symmetry.Plane90 (4 * m) xs) ≡ true
     → Stored symmetry.Plane90 xs (stored_angles symmetry.Plane90 (4 * m) xs)

@@ -10,11 +10,11 @@ use Rattle.eulumdat_read.specs.declared.fault.LdtFault.{LdtFault}
 use Rattle.eulumdat_read.specs.declared.fault.LdtFault.TheVariants as fault
 use Rattle.eulumdat_read.specs.Grammar.{AreStored, RunAsNeeded, less_a_turn}
 use Rattle.eulumdat_read.specs.Items.{line_at, number_at, measured_at, count_at, angles_at, fluxes_at, value_at, values_at, all_blank}
-use Rattle.eulumdat_read.specs.Ldt.{LdtFile, body_of, head_of, ldt}
+use Rattle.eulumdat_read.specs.Ldt.{LdtFile, body_of, flux_at, head_of, ldt, planes_at}
 use Rattle.eulumdat_read.specs.Lines.{but_empty_last, lines_of, pieces}
 
 unfoldable of_files : Unit {0}
-unfolding number spelled joined line_at number_at measured_at count_at angles_at fluxes_at value_at values_at all_blank head_of body_of ldt
+unfolding number spelled joined line_at number_at measured_at count_at angles_at fluxes_at value_at values_at all_blank head_of flux_at planes_at body_of ldt
 of_files = tt
 
 unfoldable of_lines : Unit {0}

@@ -4,6 +4,7 @@
 mod angles;
 mod body;
 mod fault;
+mod flux;
 mod head;
 mod items;
 pub mod laws;
