@@ -1,11 +1,11 @@
 -- The ends of intensities and shares are in order at every depth.
-use Rattle.std.proofs.Common.{ℕ, zero, suc, ◌+◌, ◌*◌, ◌^◌, ◌<◌, ◌≤◌, ◌≡◌, inl, inr, Bool, true, false, ◌&&◌, nat_lt, nat_le, List, arith, refl, if◌then◌else◌, ℤ}
+use Rattle.std.proofs.Common.{ℕ, zero, suc, ◌+◌, ◌*◌, ◌^◌, ◌<◌, ◌≤◌, ◌≡◌, inl, inr, Bool, true, false, nat_lt, nat_le, arith, refl, ℤ}
 use Rattle.std.proofs.Math.Nat.{mul-pos}
 use Rattle.std.proofs.lemmas.Bool.Decides.{nat_tests}
-use Rattle.fx_base.specs.Fraction.{Fraction, ◌≤ᶠ◌, ◌+ᶠ◌, ◌-ᶠ◌, ◌*ᶠ◌, ◌/ᶠ◌, ratio, whole, half_power}
-use Rattle.fx_base.specs.Interval.{Interval, InOrder, Contains, exact, outward}
-use Rattle.fx_base.specs.Root.{halved, root}
-use Rattle.fx_base.proofs.Order.{le_refl_f, le_trans_f, add_le_f, add_zero_f, mul_le_f, le_add_f, sub_le_f, sub_le_self_f, sub_mono_f, le_of_eq_f}
+use Rattle.fx_base.specs.Fraction.{Fraction, ◌≤ᶠ◌, ◌+ᶠ◌, ◌*ᶠ◌, ◌/ᶠ◌, ratio, whole, half_power}
+use Rattle.fx_base.specs.Interval.{Interval, InOrder, exact, outward}
+use Rattle.fx_base.specs.Root.{root}
+use Rattle.fx_base.proofs.Order.{le_refl_f, le_trans_f, add_le_f, add_zero_f, mul_le_f, le_add_f, sub_le_self_f, le_of_eq_f}
 use Rattle.fx_base.proofs.Ratios.{ratio_le_ratio, over_le_any, le_lesser}
 use Rattle.fx_base.proofs.RootLaws.{root_nested}
 use Rattle.fx_base.proofs.SearchLaws.{is_true_or_false, greatest_within}
@@ -19,15 +19,15 @@ use Rattle.room_layout.specs.declared.room.Shine.TheVariants.{Even, File}
 use Rattle.angle_bracket.specs.Direction.{square, is_positive, less_angle, quarter_angle, direction_gamma}
 use Rattle.angle_bracket.proofs.Ordered.{c_in_order, gamma_in_order}
 use Rattle.photo_table.specs.Hull.{hull}
-use Rattle.photo_table.specs.Laws.{StandsFor, loose_c, loose_gamma}
-use Rattle.photo_table.specs.Table.{Table, IsTable, value, bilinear, lower, upper}
+use Rattle.photo_table.specs.Laws.{loose_c, loose_gamma}
+use Rattle.photo_table.specs.Table.{Table, value, bilinear, lower, upper}
 use Rattle.photo_table.specs.Angles.{turn_later}
 use Rattle.photo_table.proofs.HullLaws.{first_below, hull_contains, stands_table}
 use Rattle.photo_table.proofs.Tables.{end_near}
 use Rattle.direct_light.specs.Directions.{step_from, c_towards, gamma_towards, seen, loose_seen, bracket_width}
 use Rattle.direct_light.specs.Laws.{IsOrdered, ExactIsOrdered, SeenIsInOrder, ShareIsInOrder, LampShareIsInOrder}
 use Rattle.direct_light.specs.Lamps.{part_count}
-use Rattle.direct_light.specs.Shares.{falloff, fallen, share_of, loosened, table_at, share, loose_share}
+use Rattle.direct_light.specs.Shares.{falloff, fallen, share_of, loosened, table_at}
 use Rattle.direct_light.proofs.Falls.{root_low_positive}
 use Rattle.direct_light.proofs.Steps.{somewhere}
 use Rattle.direct_light.proofs.Shown.{at_most_square}
@@ -130,11 +130,12 @@ pub seen_in_order : SeenIsInOrder
 seen_in_order t h n l q p apart =
     let c = c_in_order n (step_from q p).x (step_from q p).y l.turn in
     let g = gamma_in_order n (step_from q p).x (step_from q p).y (step_from q p).z (somewhere q p apart) in
-    let below = gamma_below n (step_from q p).x (step_from q p).y (step_from q p).z in
-    (hull_order t h (c_towards n l q p) (gamma_towards n q p) c g,
-    outward_order (half_power 30) (hull t (loose_c bracket_width (c_towards n l q p)) (loose_gamma bracket_width (gamma_towards n q p)))
-    (hull_order t h (loose_c bracket_width (c_towards n l q p)) (loose_gamma bracket_width (gamma_towards n q p))
-    (loose_c_order bracket_width (c_towards n l q p) c) (loose_gamma_order bracket_width (gamma_towards n q p) g below)))
+    let below = gamma_below n (step_from q p).x (step_from q p).y (step_from q p).z in (
+      hull_order t h (c_towards n l q p) (gamma_towards n q p) c g,
+      outward_order (half_power 30) (hull t (loose_c bracket_width (c_towards n l q p)) (loose_gamma bracket_width (gamma_towards n q p)))
+          (hull_order t h (loose_c bracket_width (c_towards n l q p)) (loose_gamma bracket_width (gamma_towards n q p))
+          (loose_c_order bracket_width (c_towards n l q p) c) (loose_gamma_order bracket_width (gamma_towards n q p) g below)),
+    )
 
 pub exact_is_ordered : ExactIsOrdered
 exact_is_ordered p t h s = record { is_table = stands_table p t h s; values = λ i j. le_of_eq_f (s.exact i j) }
@@ -145,12 +146,12 @@ pub lamp_shares_in_order : LampShareIsInOrder
 lamp_shares_in_order n tables l q p face clear h = elim l.shine as (λ (s : Shine). ((k : ℕ) → s ≡ File k → IsOrdered (table_at tables k)) →
     InOrder (share_of n (elim s [ Even candela ↦ exact (whole candela) | File k ↦ seen n (table_at tables k) l q p ]) l q p face clear)
     × InOrder (loosened (share_of n (elim s [ Even candela ↦ outward (half_power 30) (exact (whole candela)) | File k ↦ loose_seen n (table_at tables k) l q p ]) l q p face clear))) [
-  | Even candela ↦ λ g. (
-      share_order n (exact (whole candela)) l q p face clear (λ d. le_refl_f (whole candela)),
-      (shares_in_order n (outward (half_power 30) (exact (whole candela))) l q p face clear (λ d. outward_order (half_power 30) (exact (whole candela)) (le_refl_f (whole candela)))).1,
-    )
-  | File k ↦ λ g. (
-      share_order n (seen n (table_at tables k) l q p) l q p face clear (λ d. (seen_in_order (table_at tables k) (g k refl) n l q p d).0),
-      (shares_in_order n (loose_seen n (table_at tables k) l q p) l q p face clear (λ d. (seen_in_order (table_at tables k) (g k refl) n l q p d).1)).1,
-    )
-] h
+      | Even candela ↦ λ g. (
+        share_order n (exact (whole candela)) l q p face clear (λ d. le_refl_f (whole candela)),
+        (shares_in_order n (outward (half_power 30) (exact (whole candela))) l q p face clear (λ d. outward_order (half_power 30) (exact (whole candela)) (le_refl_f (whole candela)))).1,
+      )
+      | File k ↦ λ g. (
+        share_order n (seen n (table_at tables k) l q p) l q p face clear (λ d. (seen_in_order (table_at tables k) (g k refl) n l q p d).0),
+        (shares_in_order n (loose_seen n (table_at tables k) l q p) l q p face clear (λ d. (seen_in_order (table_at tables k) (g k refl) n l q p d).1)).1,
+      )
+    ] h

@@ -3,3 +3,6 @@ pub mod Directions
 pub mod Shares
 pub mod Ways
 pub mod Laws
+mod LampTests
+mod DirectionTests
+mod ShareTests

@@ -12,3 +12,6 @@ mod way;
 
 pub use light::{direct, even_light};
 pub use points::lamp_points;
+
+#[cfg(test)]
+mod tests;

@@ -1,7 +1,6 @@
 -- From line to line.
-use Rattle.std.proofs.Common.{ℕ, zero, suc, ◌+◌, ◌-◌, ◌<◌, ◌≤◌, ◌≡◌, List, [], ◌∷◌, length, drop, slice_index_or, arith, refl, ap, sym, ◌∙◌, nat_le, true, false, Result, Ok, Err}
+use Rattle.std.proofs.Common.{ℕ, zero, suc, ◌+◌, ◌-◌, ◌<◌, ◌≡◌, List, [], ◌∷◌, length, drop, slice_index_or, arith, refl, ap, sym, ◌∙◌, Result, Ok, Err}
 use Rattle.std.proofs.lemmas.List.{length-drop}
-use Rattle.std.proofs.lemmas.Bool.Decides.{nat_tests}
 use Rattle.fx_base.proofs.Truth.{le_false, le_true}
 use Rattle.eulumdat_read.specs.Cursors.{IsAt, IsAtEnd, Takes, lines_from}
 use Rattle.eulumdat_read.specs.Items.{line_at}

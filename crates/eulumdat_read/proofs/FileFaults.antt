@@ -8,11 +8,10 @@ use Rattle.decimal_text.specs.declared.number.NumberFault.TheVariants.{NotNumber
 use Rattle.symmetry_expand.specs.declared.symmetry.ExpandFault.TheVariants as expand
 use Rattle.symmetry_expand.specs.Stored.{multiple_of}
 use Rattle.eulumdat_read.specs.Items.{◌>>=◌, demand, line_at, or_fault, number_at, ranged, measured_at, count_at, angles_at, fluxes_at, lit, value_at, values_at, all_blank}
-use Rattle.eulumdat_read.specs.Ldt.{Head, symmetry_by, head_of, body_of, ldt}
+use Rattle.eulumdat_read.specs.Ldt.{Head, symmetry_by, head_of, flux_at, run_well, stored_angles, planes_at, body_of, ldt}
 use Rattle.eulumdat_read.specs.Lines.{is_blank_byte}
 use Rattle.eulumdat_read.specs.declared.fault.LdtFault.{LdtFault}
 use Rattle.eulumdat_read.specs.declared.fault.LdtFault.TheVariants as fault
-use Rattle.eulumdat_read.proofs.BodySteps.{ends_fit}
 
 abbrev is_want : LdtFault → Bool
 is_want (fault.Short k) = false
@@ -121,15 +120,24 @@ head_none lines set =
     next _ _ (count_none lines 26 1 20) (λ sets.
     next _ _ (demanded (nat_le set sets) fault.NoLampSet refl) (λ _. refl)))))))
 
+flux_none : (lines : List (List ℕ)) (sets set : ℕ) → wants (flux_at lines sets set) ≡ false
+unfolding flux_at
+flux_none lines sets set = next _ _ (fluxes_none lines 29 [] sets) (λ fluxes. refl)
+
+planes_none : (lines : List (List ℕ)) (h : Head) → wants (planes_at lines h) ≡ false
+unfolding planes_at
+planes_none lines h =
+    next _ _ (angles_none lines _ 359999999 0 [] h.planes) (λ angles.
+    next _ _ (demanded (run_well h.symmetry (stored_angles h.symmetry h.planes angles)) (fault.Expand expand.PlaneAngle) refl) (λ _. refl))
+
 body_none : (lines : List (List ℕ)) (set : ℕ) (h : Head) → wants (body_of lines set h) ≡ false
 unfolding body_of
 body_none lines set h =
-    next _ _ (fluxes_none lines 29 [] h.sets) (λ fluxes.
-    next _ _ (angles_none lines _ 359999999 0 [] h.planes) (λ angles.
-    next _ _ (demanded (ends_fit h angles) (fault.Expand expand.PlaneAngle) refl) (λ _.
+    next _ _ (flux_none lines h.sets set) (λ flux.
+    next _ _ (planes_none lines h) (λ planes.
     next _ _ (angles_none lines _ 180000000 0 [] h.gammas) (λ gammas.
     next _ _ (values_none lines _ _ [] _) (λ values.
-    next _ _ (blank_none _ _) (λ _. refl))))))
+    next _ _ (blank_none _ _) (λ _. refl)))))
 
 none : (lines : List (List ℕ)) (set : ℕ) → wants (ldt lines set) ≡ false
 unfolding ldt

@@ -1,9 +1,8 @@
 -- One line more of a run.
-use Rattle.std.proofs.Common.{ℕ, zero, suc, ◌+◌, ◌-◌, ◌^◌, ◌<◌, ◌≤◌, ◌≡◌, List, [], ◌∷◌, ◌++◌, length, map, slice_index_or, arith, refl, ◌∙◌, inl, inr, nat_le, true, false, Ok, Err, add-zero}
+use Rattle.std.proofs.Common.{ℕ, zero, suc, ◌+◌, ◌-◌, ◌*◌, ◌^◌, ◌<◌, ◌≤◌, ◌≡◌, List, [], ◌∷◌, ◌++◌, length, map, slice_index_or, arith, refl, ap, ◌∙◌, inl, inr, true, false, Ok, Err, Result, add-zero}
 use Rattle.std.specs.List.{list_all}
 use Rattle.std.proofs.lemmas.Int.{ints}
 use Rattle.std.proofs.lemmas.Bool.{cases_lt}
-use Rattle.std.proofs.lemmas.Bool.Decides.{nat_tests}
 use Rattle.std.proofs.lemmas.List.{map-append, length-append, get_or_append_left, get_or-append_right}
 use Rattle.std.proofs.Math.ListN.{length-map}
 use Rattle.fx_base.specs.Ends.{Ends}
@@ -12,8 +11,9 @@ use Rattle.fx_base.proofs.Truth.{le_false, le_true}
 use Rattle.photo_table.specs.Kept.{angle_of}
 use Rattle.symmetry_expand.specs.Measured.{micro}
 use Rattle.eulumdat_read.specs.Items.{measured_at, angles_at, fluxes_at, value_at, values_at, all_blank}
+use Rattle.eulumdat_read.specs.Ldt.{flux_at}
 use Rattle.eulumdat_read.specs.Lines.{is_blank_byte}
-use Rattle.eulumdat_read.specs.Runs.{AreAngles, ReadSoFar, span_of}
+use Rattle.eulumdat_read.specs.Runs.{AreAngles, AreSpansOf, LitSoFar, ReadSoFar, span_of}
 use Rattle.eulumdat_read.specs.declared.fault.LdtFault.{LdtFault}
 use Rattle.eulumdat_read.specs.declared.fault.LdtFault.TheVariants as fault
 
@@ -74,22 +74,69 @@ angles_within n m least most xs h e l = record { count = h.count ∙ e; not_nega
 
 -- ---- fluxes
 
-pub fluxes_fault : (lines : List (List ℕ)) (k : ℕ) (front : List ℕ) (m : ℕ) (e : LdtFault) → 0 < m → measured_at lines k 0 10000000000000 ≡ Err e → fluxes_at lines k front m ≡ Err e
+fluxes_fault : (lines : List (List ℕ)) (k : ℕ) (front : List ℕ) (m : ℕ) (e : LdtFault) → 0 < m → measured_at lines k 0 10000000000000 ≡ Err e → fluxes_at lines k front m ≡ Err e
 unfolding fluxes_at
 fluxes_fault lines k front zero e p h = absurd (omega arith)
 fluxes_fault lines k front (suc m) e p h = rw h refl
 
-pub fluxes_more : (lines : List (List ℕ)) (k k' : ℕ) (front front' : List ℕ) (m m' f : ℕ) → measured_at lines k 0 10000000000000 ≡ Ok f → k' ≡ k + 6 → m ≡ m' + 1 → front' ≡ front ++ f ∷ []
+fluxes_more : (lines : List (List ℕ)) (k k' : ℕ) (front front' : List ℕ) (m m' f : ℕ) → measured_at lines k 0 10000000000000 ≡ Ok f → k' ≡ k + 6 → m ≡ m' + 1 → front' ≡ front ++ f ∷ []
     → fluxes_at lines k front m ≡ fluxes_at lines k' front' m'
 unfolding fluxes_at
 fluxes_more lines k k' front front' m m' f h e g i = let s : m ≡ suc m' = omega arith in rw (s, e, i, h) refl
 
-pub fluxes_done : (lines : List (List ℕ)) (k : ℕ) (front : List ℕ) (m : ℕ) → m ≡ 0 → fluxes_at lines k front m ≡ Ok front
+fluxes_done : (lines : List (List ℕ)) (k : ℕ) (front : List ℕ) (m : ℕ) → m ≡ 0 → fluxes_at lines k front m ≡ Ok front
 unfolding fluxes_at
 fluxes_done lines k front m e = rw e refl
 
+-- no set is read yet
+pub lit_none : (lines : List (List ℕ)) (set n : ℕ) → 1 ≤ set → LitSoFar lines set n 0 0
+lit_none lines set n some = record { front = []; so_far = let z : n - 0 ≡ n = omega arith in rw z refl; count = refl; chosen = λ p. absurd (omega arith); small = omega arith }
+
+pub lit_fault : (lines : List (List ℕ)) (set n i flux : ℕ) (e : LdtFault) → LitSoFar lines set n i flux → i < n → measured_at lines (29 + 6 * i) 0 10000000000000 ≡ Err e → flux_at lines n set ≡ Err e
+unfolding flux_at
+lit_fault lines set n i flux e r p h =
+    let f : fluxes_at lines 29 [] n ≡ Err e = r.so_far ∙ fluxes_fault lines (29 + 6 * i) r.front (n - i) e (omega arith) h in
+    rw f refl
+
+-- one set more, which is the chosen one or isn't
+lit_more : (lines : List (List ℕ)) (set n i flux f x : ℕ) → (r : LitSoFar lines set n i flux) → i < n → measured_at lines (29 + 6 * i) 0 10000000000000 ≡ Ok f
+    → (set ≤ i + 1 → slice_index_or (r.front ++ f ∷ []) (set - 1) 0 ≡ x) → x ≤ 10000000000000 → LitSoFar lines set n (i + 1) x
+lit_more lines set n i flux f x r p h at small =
+    let c = r.count in
+    let all = length-append r.front (f ∷ []) in
+    record {
+      front = r.front ++ f ∷ [];
+      so_far = r.so_far ∙ fluxes_more lines (29 + 6 * i) (29 + 6 * (i + 1)) r.front (r.front ++ f ∷ []) (n - i) (n - (i + 1)) f h (omega arith) (omega arith) refl;
+      count = omega (arith, all);
+      chosen = at;
+      small = small;
+    }
+
+pub lit_here : (lines : List (List ℕ)) (set n i flux f : ℕ) → LitSoFar lines set n i flux → i < n → measured_at lines (29 + 6 * i) 0 10000000000000 ≡ Ok f → i + 1 ≡ set → f ≤ 10000000000000
+    → LitSoFar lines set n (i + 1) f
+lit_here lines set n i flux f r p h e small =
+    let c = r.count in
+    let s : set - 1 ≡ length r.front = omega arith in
+    let z : length r.front - length r.front ≡ 0 = omega arith in
+    lit_more lines set n i flux f f r p h (λ q. rw s (get_or-append_right r.front (f ∷ []) (length r.front) (length r.front) 0 refl (omega arith) ∙ rw z refl)) small
+
+pub lit_there : (lines : List (List ℕ)) (set n i flux f : ℕ) → 1 ≤ set → LitSoFar lines set n i flux → i < n → measured_at lines (29 + 6 * i) 0 10000000000000 ≡ Ok f → (i + 1 ≡ set → ⊥)
+    → LitSoFar lines set n (i + 1) flux
+lit_there lines set n i flux f some r p h e =
+    let c = r.count in
+    lit_more lines set n i flux f flux r p h (λ q. elim (cases_lt i set) [
+      | inl a ↦ absurd (e (omega arith))
+      | inr a ↦ get_or_append_left r.front (f ∷ []) 0 (set - 1) (omega arith) ∙ r.chosen a
+    ]) r.small
+
+pub lit_all : (lines : List (List ℕ)) (set n i flux : ℕ) → LitSoFar lines set n i flux → i ≡ n → set ≤ n → flux_at lines n set ≡ Ok flux
+unfolding flux_at
+lit_all lines set n i flux r e p =
+    let f : fluxes_at lines 29 [] n ≡ Ok r.front = r.so_far ∙ fluxes_done lines (29 + 6 * i) r.front (n - i) (omega arith) in
+    rw f (ap (λ (x : ℕ). let y : Result ℕ LdtFault = Ok x in y) (r.chosen (omega arith)))
+
 -- what holds of each number so far holds of one more
-pub more_small : (xs ys : List ℕ) (x n most : ℕ) → length xs ≡ n → ((j : ℕ) → j < n → slice_index_or xs j 0 ≤ most) → x ≤ most → ys ≡ xs ++ x ∷ [] → (j : ℕ) → j < n + 1 → slice_index_or ys j 0 ≤ most
+more_small : (xs ys : List ℕ) (x n most : ℕ) → length xs ≡ n → ((j : ℕ) → j < n → slice_index_or xs j 0 ≤ most) → x ≤ most → ys ≡ xs ++ x ∷ [] → (j : ℕ) → j < n + 1 → slice_index_or ys j 0 ≤ most
 more_small xs ys x n most c h p e j q = elim (cases_lt j (length xs)) [
   | inl r ↦ rw (e, get_or_append_left xs (x ∷ []) 0 j r) (h j (omega arith))
   | inr r ↦ let z : j - length xs ≡ 0 = omega arith in rw (e, get_or-append_right xs (x ∷ []) (length xs) j 0 refl r, z) p
@@ -127,6 +174,10 @@ read_more lines k factor n i v spans spans' r p h small e =
       small = λ j q. more_small r.front (r.front ++ v ∷ []) v (length r.front) (10 ^ 28) refl r.small small refl j (omega (arith, all));
       count = omega (arith, all);
     }
+
+pub all_spans : (lines : List (List ℕ)) (k factor n i : ℕ) (spans : List Ends) → ReadSoFar lines k factor n i spans → i ≡ n → AreSpansOf n spans (values_at lines k factor [] n)
+all_spans lines k factor n i spans r e =
+    record { values = r.front; is = r.so_far ∙ values_done lines (k + i) factor r.front (n - i) (omega arith); are = r.are; small = r.small; count = r.count ∙ e }
 
 -- ---- the end
 

@@ -40,14 +40,14 @@ angle_lt n most xs h i j d p q =
 pub stored_length : (s : Symmetry) (planes : ℕ) (xs : List Micro) → length (stored_angles s planes xs) ≡ stored_count s planes
 stored_length s planes xs = ones_length (λ p. stored_angle s planes xs p) (stored_count s planes)
 
-stored_get : (s : Symmetry) (planes : ℕ) (xs : List Micro) (p : ℕ) (d : Micro) → p < stored_count s planes → slice_index_or (stored_angles s planes xs) p d ≡ stored_angle s planes xs p
+pub stored_get : (s : Symmetry) (planes : ℕ) (xs : List Micro) (p : ℕ) (d : Micro) → p < stored_count s planes → slice_index_or (stored_angles s planes xs) p d ≡ stored_angle s planes xs p
 stored_get s planes xs p d h = ones_get (λ p. stored_angle s planes xs p) (stored_count s planes) d p h
 
 -- from the first plane on
-record AreFirst (s : Symmetry) (planes : ℕ) (xs : List Micro) : Type 0 where
-  some : 0 < stored_count s planes
-  few : stored_count s planes ≤ planes
-  each : (p : ℕ) → p < stored_count s planes → stored_angle s planes xs p ≡ slice_index_or xs p no_angle
+pub record AreFirst (s : Symmetry) (planes : ℕ) (xs : List Micro) : Type 0 where
+  pub some : 0 < stored_count s planes
+  pub few : stored_count s planes ≤ planes
+  pub each : (p : ℕ) → p < stored_count s planes → stored_angle s planes xs p ≡ slice_index_or xs p no_angle
 
 first_rise : (s : Symmetry) (planes : ℕ) (xs : List Micro) → AreAngles planes 360000000 xs → AreFirst s planes xs → RiseWithinTurn (stored_angles s planes xs)
 first_rise s planes xs h f =
@@ -70,16 +70,16 @@ first_rise s planes xs h f =
 from_first : (planes p : ℕ) (xs : List Micro) → p < planes → slice_index_or xs ((1 - 1 + p) % planes) no_angle ≡ slice_index_or xs p no_angle
 from_first planes p xs h = let e : 1 - 1 + p ≡ p = omega arith in rw (e, mod-eq_of_lt h) refl
 
-none_first : (planes : ℕ) (xs : List Micro) → 1 ≤ planes → AreFirst symmetry.None planes xs
+pub none_first : (planes : ℕ) (xs : List Micro) → 1 ≤ planes → AreFirst symmetry.None planes xs
 none_first planes xs h = record { some = omega arith; few = omega arith; each = λ p q. from_first planes p xs q }
 
-axis_first : (planes : ℕ) (xs : List Micro) → 1 ≤ planes → AreFirst symmetry.Axis planes xs
+pub axis_first : (planes : ℕ) (xs : List Micro) → 1 ≤ planes → AreFirst symmetry.Axis planes xs
 axis_first planes xs h = record { some = omega arith; few = omega arith; each = λ p q. from_first planes p xs (omega arith) }
 
-plane0_first : (planes : ℕ) (xs : List Micro) → 1 ≤ planes → planes % 2 ≡ 0 → AreFirst symmetry.Plane0 planes xs
+pub plane0_first : (planes : ℕ) (xs : List Micro) → 1 ≤ planes → planes % 2 ≡ 0 → AreFirst symmetry.Plane0 planes xs
 plane0_first planes xs h e = let f : planes / 2 + 1 ≤ planes = omega arith in record { some = omega arith; few = f; each = λ p q. from_first planes p xs (omega arith) }
 
-both_first : (planes : ℕ) (xs : List Micro) → 1 ≤ planes → planes % 4 ≡ 0 → AreFirst symmetry.Both planes xs
+pub both_first : (planes : ℕ) (xs : List Micro) → 1 ≤ planes → planes % 4 ≡ 0 → AreFirst symmetry.Both planes xs
 both_first planes xs h e = let f : planes / 4 + 1 ≤ planes = omega arith in record { some = omega arith; few = f; each = λ p q. from_first planes p xs (omega arith) }
 
 -- ---- the mirror at 90: the first quarter of the stored planes is the last quarter of all, less a turn
@@ -149,11 +149,11 @@ low_ends first last h r = elim (either (int_eq first (negsuc 89999999)) (int_eq 
 ]
 
 -- of all angles the one that is the first stored, and the one that is the last
-record AreTurned (m : ℕ) (xs : List Micro) : Type 0 where
-  first : (slice_index_or xs (3 * m) no_angle).0 ≡ pos 270000000
-  last : (slice_index_or xs m no_angle).0 ≡ pos 90000000
+pub record AreTurned (m : ℕ) (xs : List Micro) : Type 0 where
+  pub first : (slice_index_or xs (3 * m) no_angle).0 ≡ pos 270000000
+  pub last : (slice_index_or xs m no_angle).0 ≡ pos 90000000
 
-are_turned : (m : ℕ) (xs : List Micro) → AreAngles (4 * m) 360000000 xs → 1 ≤ m
+pub are_turned : (m : ℕ) (xs : List Micro) → AreAngles (4 * m) 360000000 xs → 1 ≤ m
     → runs_as_needed symmetry.Plane90 (first_angle (stored_angles symmetry.Plane90 (4 * m) xs)) (last_angle (stored_angles symmetry.Plane90 (4 * m) xs)) ≡ true → AreTurned m xs
 are_turned m xs h some r =
     let n = h.count in
@@ -174,7 +174,7 @@ are_turned m xs h some r =
     }
 
 -- the stored ones before 0 degrees, and the others
-early_is : (m : ℕ) (xs : List Micro) → AreAngles (4 * m) 360000000 xs → AreTurned m xs → (p : ℕ) (d : Micro) → p < m
+pub early_is : (m : ℕ) (xs : List Micro) → AreAngles (4 * m) 360000000 xs → AreTurned m xs → (p : ℕ) (d : Micro) → p < m
     → ((slice_index_or (stored_angles symmetry.Plane90 (4 * m) xs) p d).0 ≡ (slice_index_or xs (3 * m + p) no_angle).0 -ℤ pos 360000000) × (pos 270000000 ≤ℤ (slice_index_or xs (3 * m + p) no_angle).0)
 early_is m xs h t p d q =
     let n = h.count in
@@ -185,7 +185,7 @@ early_is m xs h t p d q =
     ] in
     (ap (λ (a : Micro). a.0) (stored_get symmetry.Plane90 (4 * m) xs p d (omega arith) ∙ at_early m p xs q) ∙ less_turn (slice_index_or xs (3 * m + p) no_angle) (omega (arith, ints, far)), far)
 
-late_is : (m : ℕ) (xs : List Micro) → AreAngles (4 * m) 360000000 xs → AreTurned m xs → 1 ≤ m → (p : ℕ) (d : Micro) → m ≤ p → p ≤ 2 * m
+pub late_is : (m : ℕ) (xs : List Micro) → AreAngles (4 * m) 360000000 xs → AreTurned m xs → 1 ≤ m → (p : ℕ) (d : Micro) → m ≤ p → p ≤ 2 * m
     → ((slice_index_or (stored_angles symmetry.Plane90 (4 * m) xs) p d).0 ≡ (slice_index_or xs (p - m) no_angle).0) × ((slice_index_or xs (p - m) no_angle).0 ≤ℤ pos 90000000)
 late_is m xs h t some p d q s =
     let n = h.count in

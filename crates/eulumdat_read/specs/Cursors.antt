@@ -1,5 +1,7 @@
 -- How far a file was read.
-use Rattle.std.specs.Prelude.{ℕ, ◌+◌, ◌<◌, ◌≤◌, ◌≡◌, List, [], ◌∷◌, length, drop}
+use Rattle.std.specs.Prelude.{ℕ, ◌+◌, ◌<◌, ◌≤◌, ◌≡◌, List, [], ◌∷◌, length, drop, Result, Err}
+use Rattle.eulumdat_read.specs.declared.fault.LdtFault.{LdtFault}
+use Rattle.eulumdat_read.specs.declared.fault.LdtFault.TheVariants as fault
 use Rattle.eulumdat_read.specs.declared.line.Cursor.{Cursor}
 use Rattle.eulumdat_read.specs.Lines.{lines_of}
 
@@ -17,6 +19,10 @@ pub record IsAt (bytes : List ℕ) (c : Cursor) : Type 0 where
 -- no line is left
 pub record IsAtEnd (bytes : List ℕ) (c : Cursor) : Type 0 where
   pub nothing : lines_from bytes c.at ≡ []
+
+-- the fault is that of the definition; want of memory says nothing
+abbrev pub IsRefused : {A : Type 0} → LdtFault → Result A LdtFault → Type 0
+IsRefused e r = (e ≡ fault.Memory → ⊥) → r ≡ Err e
 
 -- the next line was taken
 pub record Takes (bytes : List ℕ) (old new : Cursor) (line : List ℕ) : Type 0 where

@@ -1,5 +1,5 @@
 -- What the reader holds of the head of a file.
-use Rattle.std.specs.Prelude.{ℕ, ◌%◌, ◌≤◌, ◌≡◌}
+use Rattle.std.specs.Prelude.{◌%◌, ◌≤◌, ◌≡◌}
 use Rattle.symmetry_expand.specs.Stored.{multiple_of, first_stored, stored_count}
 use Rattle.eulumdat_read.specs.Ldt.{Head}
 use Rattle.eulumdat_read.specs.declared.head.Head.{Head as Held}
@@ -8,7 +8,7 @@ abbrev pub head_in : Held → Head
 head_in h = record { symmetry = h.symmetry; planes = h.planes; gammas = h.gammas; factor = h.factor; sets = h.sets }
 
 -- its numbers are in their ranges, and it knows which planes are stored
-pub record IsHead (h : Held) (set : ℕ) : Type 0 where
+pub record IsHead (h : Held) : Type 0 where
   pub some_planes : 1 ≤ h.planes
   pub planes : h.planes ≤ 720
   pub whole : h.planes % multiple_of h.symmetry ≡ 0
@@ -19,4 +19,3 @@ pub record IsHead (h : Held) (set : ℕ) : Type 0 where
   pub factor : h.factor ≤ 1000000000
   pub some_sets : 1 ≤ h.sets
   pub sets : h.sets ≤ 20
-  pub chosen : set ≤ h.sets

@@ -1,5 +1,5 @@
 -- EULUMDAT, line by line: what a file says, or the fault of the first line that can't stand.
-use Rattle.std.specs.Prelude.{ℕ, ◌+◌, ◌-◌, ◌*◌, ◌%◌, ◌==◌, nat_le, if◌then◌else◌, List, [], ◌∷◌, map, drop, slice_index_or, pos, int_lt, ◌-ℤ◌, Result, Ok}
+use Rattle.std.specs.Prelude.{ℕ, Bool, ◌+◌, ◌-◌, ◌*◌, ◌%◌, ◌==◌, nat_le, if◌then◌else◌, List, [], ◌∷◌, map, drop, slice_index_or, pos, int_lt, ◌-ℤ◌, Result, Ok}
 use Rattle.fx_base.specs.Fraction.{ratio}
 use Rattle.fx_base.specs.Interval.{exact}
 use Rattle.fx_base.specs.declared.Micro.{Micro}
@@ -85,15 +85,31 @@ value_count h = stored_count h.symmetry h.planes * h.gammas
 abbrev pub end_line : Head → ℕ
 end_line h = values_line h + value_count h
 
+-- of the fluxes of all sets that of one set
+unfoldable pub flux_at : List (List ℕ) → ℕ → ℕ → Result ℕ LdtFault
+flux_at lines sets set = do
+  fluxes ← fluxes_at lines 29 [] sets
+  Ok (slice_index_or fluxes (set - 1) 0)
+
+-- whether planes run from where the symmetry has them begin to where it has them end
+abbrev pub run_well : Symmetry → List Micro → Bool
+run_well s planes = runs_as_needed s (first_angle planes) (last_angle planes)
+
+-- of all angles C the stored ones, which run as the symmetry asks
+unfoldable pub planes_at : List (List ℕ) → Head → Result (List Micro) LdtFault
+planes_at lines h = do
+  angles ← angles_at lines (planes_line h) 359999999 0 [] h.planes
+  run ← demand (run_well h.symmetry (stored_angles h.symmetry h.planes angles)) (fault.Expand expand.PlaneAngle)
+  Ok (stored_angles h.symmetry h.planes angles)
+
 unfoldable pub body_of : List (List ℕ) → ℕ → Head → Result LdtFile LdtFault
 body_of lines set h = do
-  fluxes ← fluxes_at lines 29 [] h.sets
-  angles ← angles_at lines (planes_line h) 359999999 0 [] h.planes
-  ends ← demand (runs_as_needed h.symmetry (first_angle (stored_angles h.symmetry h.planes angles)) (last_angle (stored_angles h.symmetry h.planes angles))) (fault.Expand expand.PlaneAngle)
+  flux ← flux_at lines h.sets set
+  planes ← planes_at lines h
   gammas ← angles_at lines (gammas_line h) 180000000 0 [] h.gammas
-  values ← values_at lines (values_line h) (h.factor * slice_index_or fluxes (set - 1) 0) [] (value_count h)
+  values ← values_at lines (values_line h) (h.factor * flux) [] (value_count h)
   blank ← all_blank (end_line h) (drop (end_line h - 1) lines)
-  Ok (record { symmetry = h.symmetry; planes = stored_angles h.symmetry h.planes angles; gammas = gammas; values = values })
+  Ok (record { symmetry = h.symmetry; planes = planes; gammas = gammas; values = values })
 
 -- the file that lines say, for a lamp set
 unfoldable pub ldt : List (List ℕ) → ℕ → Result LdtFile LdtFault

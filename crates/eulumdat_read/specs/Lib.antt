@@ -6,3 +6,5 @@ pub mod Lines
 pub mod Runs
 pub mod Given
 pub mod FaultText
+pub mod Grammar
+pub mod FileTests

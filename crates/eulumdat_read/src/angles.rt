@@ -1,6 +1,6 @@
 //! Runs of rising angles.
-ghost use Rattle.std.specs.Prelude.{◌≡◌, ◌≢◌, ◌+◌, ◌<◌, ◌≤◌, [], length, MatchResult, Ok, Err};
-ghost use Rattle.eulumdat_read.specs.Cursors.{IsAt};
+ghost use Rattle.std.specs.Prelude.{◌≡◌, ◌+◌, ◌<◌, ◌≤◌, [], length, MatchResult, Ok};
+ghost use Rattle.eulumdat_read.specs.Cursors.{IsAt, IsRefused};
 ghost use Rattle.eulumdat_read.specs.Items.{angles_at};
 ghost use Rattle.eulumdat_read.specs.Lines.{lines_of};
 ghost use Rattle.eulumdat_read.specs.Runs.{AreAngles};
@@ -38,25 +38,17 @@ pub fn read_angles(
     requires few { n ≤ 721 }
     ensures { MatchResult result
         (λ v. (angles_at (lines_of bytes.now) k most 0 [] n ≡ Ok v.items) × (IsAt bytes.now cursor.new × ((cursor.new.line + 1 ≡ k + n) × AreAngles n (most + 1) v.items)))
-        (λ e. e ≢ LdtFault.Memory → angles_at (lines_of bytes.now) k most 0 [] n ≡ Err e) }
+        (λ e. IsRefused e (angles_at (lines_of bytes.now) k most 0 [] n)) }
 {
-    let mut angles = match Vec::with_capacity(alloc, n as usize) {
-        Ok(angles) => angles,
-        Err(_) => return Err(LdtFault::Memory),
-    };
+    let mut angles = Vec::with_capacity(alloc, n as usize)?;
     let mut least = 0;
     for i in 0..n {
-        let angle = match read_measured(bytes, cursor, k + i, 0, most) {
-            Ok(angle) => angle,
-            Err(fault) => return Err(fault),
-        };
+        let angle = read_measured(bytes, cursor, k + i, 0, most)?;
         if angle < least {
             return Err(LdtFault::Order(k + i));
         }
         least = angle + 1;
-        if let Err(_) = angles.push(micro_of(angle)) {
-            return Err(LdtFault::Memory);
-        }
+        angles.push(micro_of(angle))?;
     }
     Ok(angles)
 }

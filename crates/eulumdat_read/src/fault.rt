@@ -1,8 +1,9 @@
 //! Why a file is refused, and in which line.
 ghost use Rattle.std.specs.Prelude.{◌≡◌, IfOk, Some, string_bytes};
 ghost use Rattle.eulumdat_read.specs.FaultText.{fault_text};
+ghost use Rattle.eulumdat_read.specs.declared.fault.LdtFault.TheVariants.{Memory};
 
-use std::alloc::{AllocError, Global};
+use std::alloc::{AllocError, AllocFailed, Global};
 use std::fmt;
 use symmetry_expand::ExpandFault;
 
@@ -29,6 +30,22 @@ pub enum LdtFault {
     Trailing(u32),
     /// Want of memory. This says nothing about the file.
     Memory,
+}
+
+impl From<AllocError> for LdtFault {
+    ghost from_gives = { λ _ e. e ≡ Memory };
+
+    fn from(_error: AllocError) -> LdtFault {
+        LdtFault::Memory
+    }
+}
+
+impl<T: Drop> From<AllocFailed<T>> for LdtFault {
+    ghost from_gives = { λ _ e. e ≡ Memory };
+
+    fn from(_failed: AllocFailed<T>) -> LdtFault {
+        LdtFault::Memory
+    }
 }
 
 impl fmt::Display for LdtFault {

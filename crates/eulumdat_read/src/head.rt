@@ -45,7 +45,7 @@ pub fn read_head(bytes: &[u8], cursor: &mut Cursor, lamp_set: u32) -> Result<Hea
     requires size { length bytes.now ≤ 16777216 }
     requires start { cursor.old.line ≡ 0 }
     ensures { MatchResult result
-        (λ h. (head_of (lines_of bytes.now) lamp_set ≡ Ok (head_in h)) × (IsAt bytes.now cursor.new × ((cursor.new.line ≡ 26) × IsHead h lamp_set)))
+        (λ h. (head_of (lines_of bytes.now) lamp_set ≡ Ok (head_in h)) × (IsAt bytes.now cursor.new × ((cursor.new.line ≡ 26) × ((lamp_set ≤ h.sets) × IsHead h))))
         (λ e. head_of (lines_of bytes.now) lamp_set ≡ Err e) }
 {
     let symmetry = symmetry_of(read_count(bytes, cursor, 3, 0, 4)?);

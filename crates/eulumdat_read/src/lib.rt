@@ -4,8 +4,10 @@
 mod angles;
 mod body;
 mod fault;
+mod flux;
 mod head;
 mod items;
+pub mod laws;
 mod line;
 mod stored;
 mod values;

@@ -1,13 +1,13 @@
-//! Runs of fluxes and of intensities, and the end of the file.
-ghost use Rattle.std.specs.Prelude.{◌≡◌, ◌≢◌, ℕ, ◌+◌, ◌-◌, ◌*◌, ◌/◌, ◌^◌, ◌<◌, ◌≤◌, [], length, MatchResult, Ok, Err, drop, slice_index_or};
-ghost use Rattle.eulumdat_read.specs.Cursors.{IsAt};
-ghost use Rattle.eulumdat_read.specs.Items.{fluxes_at, value_at, values_at, all_blank};
+//! The intensities, and the end of the file.
+ghost use Rattle.std.specs.Prelude.{◌≡◌, ◌+◌, ◌^◌, ◌<◌, ◌≤◌, [], length, MatchResult, Ok, Err, drop};
+ghost use Rattle.eulumdat_read.specs.Cursors.{IsAt, IsRefused};
+ghost use Rattle.eulumdat_read.specs.Items.{value_at, values_at, all_blank};
 ghost use Rattle.eulumdat_read.specs.Lines.{lines_of, is_blank_byte};
-ghost use Rattle.eulumdat_read.specs.Runs.{ReadSoFar, span_of};
+ghost use Rattle.eulumdat_read.specs.Runs.{AreSpansOf, span_of};
 ghost use Rattle.std.specs.List.{list_all};
 
 use crate::fault::LdtFault;
-use crate::items::{read_item, read_measured};
+use crate::items::read_item;
 use crate::line::{Cursor, next_line};
 use fx_base::Span;
 use std::alloc::Global;
@@ -17,38 +17,6 @@ const MOST: u128 = 10_000_000_000_000_000_000_000_000_000;
 
 /// What intensities are over: three numbers in millionths are multiplied, and there are 1000 in the denominator.
 const OVER: u128 = 1_000_000_000_000_000_000_000;
-
-/// The total fluxes of n lamp sets.
-pub fn read_fluxes(
-    alloc: Global,
-    bytes: &[u8],
-    cursor: &mut Cursor,
-    n: u32,
-) -> Result<Vec<u64>, LdtFault>
-    requires at { IsAt bytes.now cursor.old }
-    requires size { length bytes.now ≤ 16777216 }
-    requires k { cursor.old.line < 29 }
-    requires some { 1 ≤ n }
-    requires few { n ≤ 20 }
-    ensures { MatchResult result
-        (λ v. (fluxes_at (lines_of bytes.now) 29 [] n ≡ Ok v.items) × (IsAt bytes.now cursor.new × ((cursor.new.line + 6 ≡ 29 + 6 * n) × ((length v.items ≡ n) × ((i : ℕ) → i < n → slice_index_or v.items i 0 ≤ 10000000000000)))))
-        (λ e. e ≢ LdtFault.Memory → fluxes_at (lines_of bytes.now) 29 [] n ≡ Err e) }
-{
-    let mut fluxes = match Vec::with_capacity(alloc, n as usize) {
-        Ok(fluxes) => fluxes,
-        Err(_) => return Err(LdtFault::Memory),
-    };
-    for i in 0..n {
-        let flux = match read_measured(bytes, cursor, 29 + 6 * i, 0, 10_000_000_000_000) {
-            Ok(flux) => flux,
-            Err(fault) => return Err(fault),
-        };
-        if let Err(_) = fluxes.push(flux) {
-            return Err(LdtFault::Memory);
-        }
-    }
-    Ok(fluxes)
-}
 
 /// The intensity in line k, over 10^21 candela.
 #[tactic(auto, unfolding(crate::specs::Items::value_at))]
@@ -97,21 +65,13 @@ pub fn read_values(
     requires some { 1 ≤ n }
     requires few { n ≤ 1000000 }
     ensures { MatchResult result
-        (λ v. ReadSoFar (lines_of bytes.now) k factor n n v.items × (IsAt bytes.now cursor.new × (cursor.new.line + 1 ≡ k + n)))
-        (λ e. e ≢ LdtFault.Memory → values_at (lines_of bytes.now) k factor [] n ≡ Err e) }
+        (λ v. AreSpansOf n v.items (values_at (lines_of bytes.now) k factor [] n) × (IsAt bytes.now cursor.new × (cursor.new.line + 1 ≡ k + n)))
+        (λ e. IsRefused e (values_at (lines_of bytes.now) k factor [] n)) }
 {
-    let mut values = match Vec::with_capacity(alloc, n as usize) {
-        Ok(values) => values,
-        Err(_) => return Err(LdtFault::Memory),
-    };
+    let mut values = Vec::with_capacity(alloc, n as usize)?;
     for i in 0..n {
-        let product = match read_value(bytes, cursor, k + i, factor) {
-            Ok(product) => product,
-            Err(fault) => return Err(fault),
-        };
-        if let Err(_) = values.push(span_over(product)) {
-            return Err(LdtFault::Memory);
-        }
+        let product = read_value(bytes, cursor, k + i, factor)?;
+        values.push(span_over(product))?;
     }
     Ok(values)
 }

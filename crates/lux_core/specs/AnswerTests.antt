@@ -7,7 +7,7 @@ use Rattle.decimal_text.specs.Lines.{line}
 use Rattle.room_layout.specs.Place.{point_of}
 use Rattle.scene_system.specs.declared.fault.SceneFault.TheVariants as scene_fault
 use Rattle.lux_core.specs.Answers.{IsAnswer}
-use Rattle.lux_core.specs.RoomAnswers.{scene_fault_text}
+use Rattle.lux_core.specs.ReportAnswers.{scene_fault_text}
 use Rattle.lux_core.specs.Runs.{Run, run}
 use Rattle.lux_core.specs.Codes.{status_code}
 use Rattle.lux_core.specs.Commands.{names_file, number_after, coordinate, question_of, file_name, names_lm63, usage_line}
@@ -173,7 +173,7 @@ usage_of_no_words : IsAnswer [] (run_of 0 0) status.Usage usage_line
 usage_of_no_words = record { none = refl; text_is = refl }
 
 absent_room : IsAnswer report_words (run_of 1 0) status.Refused (codes "refused room.toml Absent\n")
-absent_room = record { asked = question.Room Report; command = refl; answer = inl (record { text_is = refl; rose = lit≤ tt; told = refl; taken = λ e. cc }) }
+absent_room = record { asked = question.Room Report; command = refl; answer = inl (inl (record { text_is = refl; rose = lit≤ tt; told = refl; taken = λ e. cc })) }
 
 read_fault_of_a_room : IsAnswer report_words (run_of 0 1) status.ReadFault (codes "read fault room.toml\n")
-read_fault_of_a_room = record { asked = question.Room Report; command = refl; answer = record { text_is = refl; rose = lit≤ tt; taken = λ e. cc } }
+read_fault_of_a_room = record { asked = question.Room Report; command = refl; answer = inl (record { text_is = refl; rose = lit≤ tt; taken = λ e. cc }) }

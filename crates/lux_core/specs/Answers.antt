@@ -1,55 +1,35 @@
 -- What a run of the planner may answer: which text goes with which status, and what was the cause.
-use Rattle.std.specs.Prelude.{ℕ, ◌≡◌, ◌≢◌, ◌+◌, ◌<◌, ◌≤◌, ◌⊎◌, List, ◌++◌, length, codes, Option, Some, None, IfSome, IsSomeAnd}
-use Rattle.decimal_text.specs.Lines.{line}
-use Rattle.lux_io.specs.Files.{bytes_of, Rose}
-use Rattle.lux_io.specs.declared.take.TakeFault.{TakeFault}
-use Rattle.lux_io.specs.declared.take.TakeFault.TheVariants as take
+use Rattle.std.specs.Prelude.{ℕ, ◌≡◌, ◌≤◌, ◌⊎◌, List, length, Option, Some, None}
+use Rattle.lux_io.specs.Files.{bytes_of}
 use Rattle.lux_core.specs.Commands.{question_of, file_name, usage_line}
-use Rattle.lux_core.specs.FileAnswers.{IsPhotometryAnswer, CanSum}
+use Rattle.lux_core.specs.Photometry.{IsPhotometryAnswer, CanSum}
 use Rattle.lux_core.specs.RoomAnswers.{IsRoomAnswer, CanTell}
-use Rattle.lux_core.specs.Runs.{Run, WereRead, longest_file}
+use Rattle.lux_core.specs.Runs.{Run, IsContent, longest_file}
+use Rattle.lux_core.specs.Untaken.{IsUntaken}
 use Rattle.lux_core.specs.declared.status.Status.{Status}
 use Rattle.lux_core.specs.declared.status.Status.TheVariants as status
 use Rattle.lux_core.specs.declared.words.Question.{Question}
 use Rattle.lux_core.specs.declared.words.Question.TheVariants as question
 
--- ---- what the bytes of a file give
+-- ---- what the bytes of a file give; a summary reads no other file
 
-abbrev pub IsBytesAnswer : Question → (name bytes : List ℕ) → Status → List ℕ → Type 0
-IsBytesAnswer (question.Room asked) name bytes given text = IsRoomAnswer asked bytes given text
-IsBytesAnswer (question.Photometry format) name bytes given text = IsPhotometryAnswer format name bytes given text
+abbrev pub IsBytesAnswer : Question → Run → (name bytes : List ℕ) → Status → List ℕ → Type 0
+IsBytesAnswer (question.Room asked) r name bytes given text = IsRoomAnswer asked r bytes given text
+IsBytesAnswer (question.Photometry format) r name bytes given text = (r.taken ≡ length bytes) × IsPhotometryAnswer format name bytes given text
 
 -- ---- what the name of a file gives
 
 -- the file was read whole, and its bytes give this
 pub record IsOfBytes (asked : Question) (r : Run) (name : List ℕ) (given_status : Status) (text : List ℕ) : Type 0 where
   pub bytes : List ℕ
-  pub read : WereRead r name bytes
-  pub given : IsBytesAnswer asked name bytes given_status text
+  pub read : IsContent r.files name bytes
+  pub given : IsBytesAnswer asked r name bytes given_status text
 
--- there is no file of that name
-pub record IsAbsent (r : Run) (name text : List ℕ) : Type 0 where
-  pub text_is : text ≡ line (codes "refused " ++ name ++ codes " Absent")
-  pub rose : Rose r.absences.before r.absences.now
-  pub told : IfSome r.files (λ files. bytes_of name files ≡ None)
-  pub taken : r.taken ≢ longest_file + 1
-
--- the file has too many bytes
-pub record IsTooLong (r : Run) (name text : List ℕ) : Type 0 where
-  pub text_is : text ≡ line (codes "refused " ++ name ++ codes " TooLong")
-  pub taken : r.taken ≡ longest_file + 1
-  pub told : IfSome r.files (λ files. IsSomeAnd (bytes_of name files) (λ bytes. longest_file < length bytes))
-
--- the file couldn't be read
-pub record IsReadFault (r : Run) (name text : List ℕ) : Type 0 where
-  pub text_is : text ≡ line (codes "read fault " ++ name)
-  pub rose : Rose r.faults.before r.faults.now
-  pub taken : r.taken ≢ longest_file + 1
-
-abbrev pub IsFileAnswer : Question → Run → List ℕ → Status → List ℕ → Type 0
+-- or it wasn't taken from the shelf
+abbrev pub IsFileAnswer : Question → Run → (name : List ℕ) → Status → List ℕ → Type 0
 IsFileAnswer asked r name status.Done text = IsOfBytes asked r name status.Done text
-IsFileAnswer asked r name status.Refused text = IsAbsent r name text ⊎ (IsTooLong r name text ⊎ IsOfBytes asked r name status.Refused text)
-IsFileAnswer asked r name status.ReadFault text = IsReadFault r name text
+IsFileAnswer asked r name status.Refused text = IsUntaken r name status.Refused text ⊎ IsOfBytes asked r name status.Refused text
+IsFileAnswer asked r name status.ReadFault text = IsUntaken r name status.ReadFault text ⊎ IsOfBytes asked r name status.ReadFault text
 IsFileAnswer asked r name _ text = ⊥
 
 -- ---- the answer to the words
@@ -73,20 +53,12 @@ IsAnswer words r status.Refused text = IsAnswerOfFile words r status.Refused tex
 IsAnswer words r status.ReadFault text = IsAnswerOfFile words r status.ReadFault text
 IsAnswer words r _ text = ⊥
 
--- ---- a file that wasn't taken
-
-abbrev pub IsFaultAnswer : List ℕ → TakeFault → Status → List ℕ → Type 0
-IsFaultAnswer name take.Absent given text = (given ≡ status.Refused) × (text ≡ line (codes "refused " ++ name ++ codes " Absent"))
-IsFaultAnswer name take.TooLong given text = (given ≡ status.Refused) × (text ≡ line (codes "refused " ++ name ++ codes " TooLong"))
-IsFaultAnswer name take.Failed given text = (given ≡ status.ReadFault) × (text ≡ line (codes "read fault " ++ name))
-IsFaultAnswer name take.Memory given text = ⊥
-
 -- ---- where an answer has to be given
 
--- it can be told of these bytes
-abbrev pub IsAble : Question → List ℕ → Type 0
-IsAble (question.Room asked) bytes = CanTell asked bytes
-IsAble (question.Photometry format) bytes = CanSum format bytes
+-- it can be told of these bytes, by the files that the shelf tells
+abbrev pub IsAble : Question → List (List ℕ × List ℕ) → List ℕ → Type 0
+IsAble (question.Room asked) told bytes = CanTell asked told bytes
+IsAble (question.Photometry format) told bytes = CanSum format bytes
 
 -- the words ask something of a file that is on the shelf and is not too long, and of whose bytes it can be told
 pub record CanAnswer (words : List (List ℕ)) (files : Option (List (List ℕ × List ℕ))) : Type 0 where
@@ -97,4 +69,4 @@ pub record CanAnswer (words : List (List ℕ)) (files : Option (List (List ℕ �
   pub bytes : List ℕ
   pub found : bytes_of (file_name words) told ≡ Some bytes
   pub few : length bytes ≤ longest_file
-  pub able : IsAble asked bytes
+  pub able : IsAble asked told bytes

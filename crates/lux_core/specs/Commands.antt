@@ -6,6 +6,7 @@ use Rattle.std.specs.Str.{bytes_eq}
 use Rattle.room_layout.specs.Place.{point_of, place_of_size}
 use Rattle.room_layout.specs.declared.geometry.Point.{Point}
 use Rattle.lux_core.specs.declared.words.Question.{Question}
+use Rattle.lux_core.specs.declared.words.Format.{Format}
 use Rattle.lux_core.specs.declared.words.Format.TheVariants.{Lm63, Eulumdat}
 use Rattle.lux_core.specs.declared.words.Question.TheVariants as question
 use Rattle.lux_core.specs.declared.words.RoomQuestion.TheVariants.{Report, Sight}
@@ -66,13 +67,16 @@ sight_between None q = None
 abbrev pub names_lm63 : List ℕ → Bool
 names_lm63 name = bytes_eq (map to_ascii_lowercase (drop (length name - 4) name)) (codes ".ies")
 
+-- LM-63 knows no lamp sets, so that each of them is the whole file
+abbrev pub format_of : (name : List ℕ) → (set : ℕ) → Format
+format_of name set = if names_lm63 name then Lm63 else Eulumdat set
+
 -- the lamp set of `read FILE` or `read FILE SET`: the first where none is named
 abbrev pub chosen_set : List (List ℕ) → Option ℕ
 chosen_set words = if length words == 2 then Some 1 else (if length words == 3 then lamp_set (slice_index_or words 2 []) else None)
 
--- LM-63 knows no lamp sets, so that each of them is the whole file
 abbrev pub summary_asked : List ℕ → Option ℕ → Option Question
-summary_asked name (Some set) = if names_lm63 name then Some (question.Photometry Lm63) else Some (question.Photometry (Eulumdat set))
+summary_asked name (Some set) = Some (question.Photometry (format_of name set))
 summary_asked name None = None
 
 abbrev pub summary_of : List (List ℕ) → Option Question

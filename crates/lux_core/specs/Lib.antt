@@ -1,5 +1,9 @@
 pub mod Answers
-pub mod FileAnswers
+pub mod Photometry
+pub mod Untaken
+pub mod LampFiles
+pub mod LampTables
+pub mod ReportAnswers
 pub mod RoomAnswers
 pub mod Runs
 pub mod Codes

@@ -29,7 +29,6 @@ abbrev pub longest_file : ℕ
 longest_file = 16777216
 
 -- these are all bytes of the file: those under its name, where the shelf tells its files
-pub record WereRead (r : Run) (name bytes : List ℕ) : Type 0 where
-  pub told : IfSome r.files (λ files. bytes_of name files ≡ Some bytes)
-  pub taken : r.taken ≡ length bytes
+pub record IsContent (files : Option (List (List ℕ × List ℕ))) (name bytes : List ℕ) : Type 0 where
+  pub told : IfSome files (λ fs. bytes_of name fs ≡ Some bytes)
   pub few : length bytes ≤ longest_file

@@ -2,6 +2,7 @@
 #![tactic(auto)]
 
 mod file;
+mod lamp_files;
 mod photometry;
 mod program;
 mod reply;
@@ -11,6 +12,7 @@ mod status;
 #[cfg(test)]
 mod tests;
 mod top;
+mod untaken;
 mod words;
 
 pub use program::run;

@@ -1,10 +1,8 @@
-//! The summary of a photometric file.
-ghost use Rattle.std.specs.Prelude.{◌≡◌, ◌≢◌, ◌≤◌, ◌++◌, length, codes, IfOk, string_bytes};
+//! Photometric files: their tables, and what is said of them.
+ghost use Rattle.std.specs.Prelude.{◌≡◌, ◌≤◌, ◌++◌, length, codes, IfOk, IfErr, string_bytes};
 ghost use Rattle.decimal_text.specs.Lines.{line};
-ghost use Rattle.eulumdat_read.specs.FaultText as ldt_text;
-ghost use Rattle.lm63_read.specs.FaultText as ies_text;
-ghost use Rattle.lux_core.specs.FileAnswers.{IsIesAnswer, IsLdtAnswer, IsPhotometryAnswer};
-ghost use Rattle.lux_core.specs.Questions.{IsFormat, IsLampSet};
+ghost use Rattle.lux_core.specs.Photometry.{IsFaultOfFile, IsNoWant, IsPhotometryAnswer, IsReadAs, table_fault_text};
+ghost use Rattle.lux_core.specs.Questions.{IsFormat};
 
 use crate::reply::Reply;
 use crate::status::Status;
@@ -12,75 +10,50 @@ use crate::words::Format;
 use eulumdat_read::{LdtFault, read_ldt};
 use fx_base::Memory;
 use lm63_read::{IesFault, read_ies};
-use photo_table::summary_text;
+use photo_table::{PhotoTable, summary_text};
 use std::alloc::Global;
 
-/// The line of an LM-63 file that is refused.
-fn ies_refusal(alloc: Global, name: &str, fault: IesFault) -> Result<String, Memory>
-    ensures want { IfOk result (λ _. fault ≢ IesFault.Memory) }
-    ensures text { IfOk result (λ s. string_bytes s ≡ line (codes "refused " ++ name.now ++ codes " " ++ ies_text.fault_text fault)) }
-{
-    match fault {
-        IesFault::Memory => Err(Memory),
-        _ => {
-            let said = fault.text(alloc)?;
-            let text = format!(in alloc; "refused {name} {said}\n")?;
-            Ok(text)
-        }
-    }
+/// Why a photometric file gives no table: the fault of its format's reader.
+#[derive(Clone, Copy, Debug, PartialEq, Eq)]
+pub enum TableFault {
+    /// The first fault of an LM-63 file.
+    Lm63(IesFault),
+    /// The first fault of a EULUMDAT file.
+    Eulumdat(LdtFault),
 }
 
-/// The line of an EULUMDAT file that is refused.
-fn ldt_refusal(alloc: Global, name: &str, fault: LdtFault) -> Result<String, Memory>
-    ensures want { IfOk result (λ _. fault ≢ LdtFault.Memory) }
-    ensures text { IfOk result (λ s. string_bytes s ≡ line (codes "refused " ++ name.now ++ codes " " ++ ldt_text.fault_text fault)) }
-{
-    match fault {
-        LdtFault::Memory => Err(Memory),
-        _ => {
-            let said = fault.text(alloc)?;
-            let text = format!(in alloc; "refused {name} {said}\n")?;
-            Ok(text)
-        }
-    }
-}
-
-/// The summary of an LM-63 file, or why it is refused.
-fn reply_to_ies(alloc: Global, name: &str, bytes: &[u8]) -> Result<Reply, Memory>
-    ensures { IfOk result (λ r. IsIesAnswer name.now bytes.now r.status (string_bytes r.text)) }
-{
-    match read_ies(alloc, bytes) {
-        Ok(table) => {
-            let text = summary_text(alloc, &table)?;
-            let status = Status::Done;
-            Ok(Reply { status, text })
-        }
-        Err(fault) => {
-            let text = ies_refusal(alloc, name, fault)?;
-            let status = Status::Refused;
-            Ok(Reply { status, text })
-        }
-    }
-}
-
-/// The summary of an EULUMDAT file for one of its lamp sets, or why it is refused.
-fn reply_to_ldt(alloc: Global, name: &str, bytes: &[u8], set: u32) -> Result<Reply, Memory>
-    requires set { IsLampSet set }
+/// The table of a photometric file, or the file's first fault.
+pub fn read_table(alloc: Global, format: Format, bytes: &[u8]) -> Result<PhotoTable, TableFault>
+    requires format { IsFormat format }
     requires few { length bytes.now ≤ 16777216 }
-    ensures { IfOk result (λ r. IsLdtAnswer name.now bytes.now set r.status (string_bytes r.text)) }
+    ensures table { IfOk result (IsReadAs format bytes.now) }
+    ensures refused { IfErr result (λ fault. IsNoWant fault → IsFaultOfFile format bytes.now fault) }
 {
-    match read_ldt(alloc, bytes, set) {
-        Ok(table) => {
-            let text = summary_text(alloc, &table)?;
-            let status = Status::Done;
-            Ok(Reply { status, text })
-        }
-        Err(fault) => {
-            let text = ldt_refusal(alloc, name, fault)?;
-            let status = Status::Refused;
-            Ok(Reply { status, text })
-        }
+    match format {
+        Format::Lm63 => match read_ies(alloc, bytes) {
+            Ok(table) => Ok(table),
+            Err(fault) => Err(TableFault::Lm63(fault)),
+        },
+        Format::Eulumdat(set) => match read_ldt(alloc, bytes, set) {
+            Ok(table) => Ok(table),
+            Err(fault) => Err(TableFault::Eulumdat(fault)),
+        },
     }
+}
+
+/// The line of a photometric file that is refused.
+pub fn refused_file(alloc: Global, name: &str, fault: TableFault) -> Result<String, Memory>
+    ensures want { IfOk result (λ _. IsNoWant fault) }
+    ensures text { IfOk result (λ s. string_bytes s ≡ line (codes "refused " ++ name.now ++ codes " " ++ table_fault_text fault)) }
+{
+    let said = match fault {
+        TableFault::Lm63(IesFault::Memory) => return Err(Memory),
+        TableFault::Eulumdat(LdtFault::Memory) => return Err(Memory),
+        TableFault::Lm63(fault) => fault.text(alloc)?,
+        TableFault::Eulumdat(fault) => fault.text(alloc)?,
+    };
+    let text = format!(in alloc; "refused {name} {said}\n")?;
+    Ok(text)
 }
 
 /// The summary of a photometric file, or why it is refused.
@@ -94,14 +67,16 @@ pub fn reply_to_photometry(
     requires few { length bytes.now ≤ 16777216 }
     ensures { IfOk result (λ r. IsPhotometryAnswer format name.now bytes.now r.status (string_bytes r.text)) }
 {
-    match format {
-        Format::Lm63 => {
-            let reply = reply_to_ies(alloc, name, bytes)?;
-            Ok(reply)
+    match read_table(alloc, format, bytes) {
+        Ok(table) => {
+            let text = summary_text(alloc, &table)?;
+            let status = Status::Done;
+            Ok(Reply { status, text })
         }
-        Format::Eulumdat(set) => {
-            let reply = reply_to_ldt(alloc, name, bytes, set)?;
-            Ok(reply)
+        Err(fault) => {
+            let text = refused_file(alloc, name, fault)?;
+            let status = Status::Refused;
+            Ok(Reply { status, text })
         }
     }
 }

@@ -1,15 +1,17 @@
 //! What is asked of a room: its report, or whether two of its points see each other.
-ghost use Rattle.std.specs.Prelude.{◌≡◌, IfOk, string_bytes};
+ghost use Rattle.std.specs.Prelude.{◌≡◌, IfOk, length, string_bytes};
 ghost use Rattle.room_layout.specs.Place.{place_of};
 ghost use Rattle.sight_line.specs.Reach.{IsInReach};
 ghost use Rattle.lux_core.specs.Questions.{IsWithinReach};
 ghost use Rattle.lux_core.specs.RoomAnswers.{IsRoomAnswer, IsSightAnswer};
+ghost use Rattle.lux_core.specs.Runs.{run};
 
 use crate::reply::Reply;
 use crate::report::reply_of_report;
 use crate::status::Status;
 use crate::words::RoomQuestion;
 use fx_base::Memory;
+use lux_io::Shelf;
 use room_layout::{Point, Room, RoomFault, read_room};
 use sight_line::blocked_by;
 use std::alloc::Global;
@@ -33,10 +35,17 @@ fn reply_of_sight(alloc: Global, room: &Room, from: Point, to: Point) -> Result<
     }
 }
 
-/// The answer to the bytes of a room file.
-pub fn reply_to_room(alloc: Global, asked: RoomQuestion, bytes: &[u8]) -> Result<Reply, Memory>
-    requires { IsWithinReach asked }
-    ensures { IfOk result (λ r. IsRoomAnswer asked bytes.now r.status (string_bytes r.text)) }
+/// The answer to the bytes of a room file, which were the last ones taken from the shelf.
+pub fn reply_to_room<S: Shelf>(
+    alloc: Global,
+    asked: RoomQuestion,
+    bytes: &[u8],
+    shelf: &mut S,
+) -> Result<Reply, Memory>
+    requires asked { IsWithinReach asked }
+    requires taken { S.taken shelf.old ≡ length bytes.now }
+    ensures files { S.files shelf.new ≡ S.files shelf.old }
+    ensures answered { IfOk result (λ r. IsRoomAnswer asked (run (S.files shelf.old) (S.absences shelf.old) (S.absences shelf.new) (S.faults shelf.old) (S.faults shelf.new) (S.taken shelf.new)) bytes.now r.status (string_bytes r.text)) }
 {
     let room = match read_room(alloc, bytes) {
         Ok(room) => room,
@@ -50,7 +59,7 @@ pub fn reply_to_room(alloc: Global, asked: RoomQuestion, bytes: &[u8]) -> Result
     };
     match asked {
         RoomQuestion::Report => {
-            let reply = reply_of_report(alloc, &room)?;
+            let reply = reply_of_report(alloc, &room, shelf)?;
             Ok(reply)
         }
         RoomQuestion::Sight(from, to) => {

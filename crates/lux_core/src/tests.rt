@@ -1,5 +1,6 @@
 //! Whole runs over the files and the output that stand in for the real ones.
 mod faults;
+mod panel;
 mod reads;
 mod refusals;
 mod reports;

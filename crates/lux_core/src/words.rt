@@ -4,8 +4,8 @@ ghost use Rattle.std.specs.List.{list_all};
 ghost use Rattle.std.specs.Option.{option_map};
 ghost use Rattle.room_layout.specs.Place.{place_of_size, point_of};
 ghost use Rattle.sight_line.specs.Reach.{IsInReach};
-ghost use Rattle.lux_core.specs.Commands.{coordinate, coordinate_at, file_name, is_digit, lamp_set, chosen_set, is_number, is_plain, names_a_file, names_file, names_lm63, summary_of, summary_asked, asked_of, number_after, point_at, question_of, sight_between};
-ghost use Rattle.lux_core.specs.Questions.{IsInRange, IsLampSet};
+ghost use Rattle.lux_core.specs.Commands.{coordinate, coordinate_at, file_name, format_of, is_digit, lamp_set, chosen_set, is_number, is_plain, names_a_file, names_file, names_lm63, summary_of, summary_asked, asked_of, number_after, point_at, question_of, sight_between};
+ghost use Rattle.lux_core.specs.Questions.{IsFormat, IsInRange, IsLampSet};
 
 use room_layout::Point;
 
@@ -167,6 +167,18 @@ fn is_lm63(name: &str) -> bool
     end.eq_ignore_ascii_case(b".ies")
 }
 
+/// As what a file of this name is read, for a lamp set.
+pub fn format_of(name: &str, set: u32) -> Format
+    requires { IsLampSet set }
+    ensures format { result ≡ format_of name.now set }
+    ensures within { IsFormat result }
+{
+    if is_lm63(name) {
+        return Format::Lm63;
+    }
+    Format::Eulumdat(set)
+}
+
 /// The lamp set that the words choose, the first where they name none.
 fn chosen_set(words: &[String]) -> Option<u32>
     ensures set { result ≡ chosen_set (map string_bytes words.now) }
@@ -188,10 +200,7 @@ fn summary_of(words: &[String]) -> Option<Question>
     ensures within { IfSome result IsInRange }
 {
     let set = chosen_set(words)?;
-    if is_lm63(words[1].as_str()) {
-        return Some(Question::Photometry(Format::Lm63));
-    }
-    Some(Question::Photometry(Format::Eulumdat(set)))
+    Some(Question::Photometry(format_of(words[1].as_str(), set)))
 }
 
 /// Whether the second word names a file.

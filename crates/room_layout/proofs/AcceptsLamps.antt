@@ -1,7 +1,8 @@
 -- The lamps of a room that the layout gives, and the files that they use.
-use Rattle.std.proofs.Common.{◌≡◌, ℕ, ◌+◌, ◌*◌, ◌<◌, ◌≤◌, Bool, true, false, nat_le, zero, suc, List, [], ◌∷◌, ◌++◌, length, get_or, All, Option, Some, None, IfSome, Ok, Err, cond, codes, refl, ap, subst, lit<, lit≤, arith, length-append}
+use Rattle.std.proofs.Common.{◌≡◌, ℕ, ◌+◌, ◌*◌, ◌<◌, ◌≤◌, Bool, true, false, nat_le, suc, List, [], ◌∷◌, length, All, Option, Some, None, IfSome, Ok, Err, cond, codes, refl, ap, subst, lit<, lit≤, arith, length-append}
 use Rattle.std.specs.List.{position}
 use Rattle.std.proofs.lemmas.Bool.{and_parts}
+use Rattle.std.proofs.lemmas.List.Elements.{All-nil, All-cons, All-push}
 use Rattle.std.proofs.lemmas.List.Quantifiers.{position-Some}
 use Rattle.toml.specs.Data.{Data, Members, get_member, as_str}
 use Rattle.room_layout.specs.declared.fault.Key.TheVariants as key
@@ -13,34 +14,13 @@ use Rattle.room_layout.specs.declared.room.Lamp.{Lamp}
 use Rattle.room_layout.specs.declared.room.Shine.{Shine}
 use Rattle.room_layout.specs.declared.room.Shine.TheVariants.{Even, File}
 use Rattle.room_layout.specs.declared.room.FileUse.{FileUse}
+use Rattle.room_layout.specs.declared.parts.Fitting.{Fitting}
 use Rattle.room_layout.specs.declared.parts.Lit.{Lit}
 use Rattle.room_layout.specs.Checks.{◌>>=◌, demand, spot, required, optional, where_given, kind, number, numbers, is_name, name_text, table_with}
-use Rattle.room_layout.specs.Layout.{fits_in, has_margin, is_same_use, placed_at, placed, shine_of, is_lamp_inside, lamp_keys, lamp_from, checked_lamp, lamp_of, lamps_from}
+use Rattle.room_layout.specs.Layout.{fits_in, has_margin, is_same_use, placed_at, placed, shine_of, is_lamp_inside, lamp_keys, lamp_from, Source, source_of, fitting_from, fitting_of, checked_lamp, lamp_of, lamps_from}
 use Rattle.room_layout.specs.Accepted.{IsBetween, HasMargin, IsShine, IsLampIn, IsFileUse}
 use Rattle.room_layout.proofs.Accepts.{both, le_from, candela_accepted}
 use Rattle.room_layout.proofs.Ranges.{bind_ok, ok_same, demand_ok, optional_number_between, optional_numbers_between, no_size_between, no_split_between}
-
--- ---- facts of each element
-
-pub All-none : {A : Type 0} (P : A → Type 0) → All P []
-All-none P k d h = absurd (omega (arith, h))
-
-pub All-cons : {A : Type 0} (P : A → Type 0) (x : A) (xs : List A) → P x → All P xs → All P (x ∷ xs)
-All-cons P x xs first more zero d h = first
-All-cons P x xs first more (suc k) d h = more k d (omega arith)
-
-pub All-head : {A : Type 0} (P : A → Type 0) (x : A) (xs : List A) → All P (x ∷ xs) → P x
-All-head P x xs all = all 0 x (omega arith)
-
-pub All-tail : {A : Type 0} (P : A → Type 0) (x : A) (xs : List A) → All P (x ∷ xs) → All P xs
-All-tail P x xs all k d h = all (suc k) d (omega arith)
-
-pub All-last : {A : Type 0} (P : A → Type 0) (xs : List A) (x : A) → All P xs → P x → All P (xs ++ x ∷ [])
-All-last P [] x all last = All-cons P x [] last (All-none P)
-All-last P (y ∷ ys) x all last = All-cons P y (ys ++ x ∷ []) (All-head P y ys all) (All-last P ys x (All-tail P y ys all) last)
-
-pub All-weaker : {A : Type 0} (P Q : A → Type 0) (xs : List A) → ((x : A) → P x → Q x) → All P xs → All Q xs
-All-weaker P Q xs weaker all k d h = weaker (get_or xs k d) (all k d h)
 
 -- ---- names
 
@@ -66,7 +46,7 @@ pub record ExtendsFiles (files more : List FileUse) : Type 0 where
 placed_extends : (f : FileUse) (files : List FileUse) (o : Option ℕ) → position (is_same_use f) files ≡ o → IsFileUse f → (let r = placed_at f files o in ExtendsFiles files r.1 × (r.0 < length r.1))
 placed_extends f files (Some k) found is_file = (record { longer = omega arith; each_file = λ all. all }, (position-Some (is_same_use f) files k f found).0)
 placed_extends f files None found is_file =
-    (record { longer = omega (arith, length-append files (f ∷ [])); each_file = λ all. All-last IsFileUse files f all is_file }, omega (arith, length-append files (f ∷ [])))
+    (record { longer = omega (arith, length-append files (f ∷ [])); each_file = λ all. All-push IsFileUse files f all is_file }, omega (arith, length-append files (f ∷ [])))
 
 pub shine_accepted : (i : ℕ) (files : List FileUse) (set : ℕ) (candela : Option ℕ) (file : Option (List ℕ)) (r : Shine × List FileUse) → shine_of i files set candela file ≡ Ok r
     → IsBetween 1 20 set → IfSome candela (λ n. n ≤ 10000000) → IfSome file (λ name. is_name name ≡ true)
@@ -117,82 +97,97 @@ pub record IsLampWith (room : Size) (files : List FileUse) (r : Lamp × List Fil
   pub extends : ExtendsFiles files r.1
   pub few : length r.1 ≤ 16
 
--- the values of the keys of a lamp that the layout gives
+-- the light of a lamp that the layout gives, key by key
+pub record HasSource (i : ℕ) (lamp : Members) (s : Source) : Type 0 where
+  pub candela : where_given (spot key.LampCandela i) (number 0 10000000) (get_member (codes "candela") lamp) ≡ Ok s.candela
+  pub file : where_given (spot key.LampFile i) name_text (get_member (codes "file") lamp) ≡ Ok s.file
+  pub set : optional 1 (spot key.LampSet i) (number 1 20) (get_member (codes "set") lamp) ≡ Ok s.set
+
+pub source_parts : (i : ℕ) (lamp : Members) (s : Source) → source_of i lamp ≡ Ok s → HasSource i lamp s
+unfolding source_of
+source_parts i lamp s e =
+    let (candela, candela_is, e1) = bind_ok (where_given (spot key.LampCandela i) (number 0 10000000) (get_member (codes "candela") lamp)) _ s e in
+    let (file, file_is, e2) = bind_ok (where_given (spot key.LampFile i) name_text (get_member (codes "file") lamp)) _ s e1 in
+    let (set, set_is, e3) = bind_ok (optional 1 (spot key.LampSet i) (number 1 20) (get_member (codes "set") lamp)) _ s e2 in
+    let same : record { candela = candela; file = file; set = set } ≡ s = ok_same _ s e3 in
+    subst (HasSource i lamp) same (record { candela = candela_is; file = file_is; set = set_is })
+
+pub record IsFitting (f : Fitting) : Type 0 where
+  pub turn : f.turn ≤ 359
+  pub maintenance : f.maintenance ≤ 1000
+  pub size_x : f.size_x ≤ 5000
+  pub size_y : f.size_y ≤ 5000
+  pub split_x : IsBetween 1 8 f.split_x
+  pub split_y : IsBetween 1 8 f.split_y
+
+fitting_accepted : (i : ℕ) (lamp : Members) (f : Fitting) → fitting_of i lamp ≡ Ok f → IsFitting f
+unfolding fitting_of
+fitting_accepted i lamp f e =
+    let (turn, turn_is, e1) = bind_ok (optional 0 (spot key.LampTurn i) (number 0 359) (get_member (codes "turn") lamp)) _ f e in
+    let (maintenance, maintenance_is, e2) = bind_ok (optional 1000 (spot key.LampMaintenance i) (number 0 1000) (get_member (codes "maintenance") lamp)) _ f e1 in
+    let (size, size_is, e3) = bind_ok (optional (0 ∷ 0 ∷ []) (spot key.LampSize i) (numbers 2 0 5000) (get_member (codes "size") lamp)) _ f e2 in
+    let (split, split_is, e4) = bind_ok (optional (1 ∷ 1 ∷ []) (spot key.LampSplit i) (numbers 2 1 8) (get_member (codes "split") lamp)) _ f e3 in
+    let same : fitting_from turn maintenance size split ≡ f = ok_same _ f e4 in
+    let sizes = optional_numbers_between (0 ∷ 0 ∷ []) 2 0 5000 (spot key.LampSize i) (get_member (codes "size") lamp) size no_size_between size_is in
+    let splits = optional_numbers_between (1 ∷ 1 ∷ []) 2 1 8 (spot key.LampSplit i) (get_member (codes "split") lamp) split no_split_between split_is in
+    subst IsFitting same (record {
+      turn = (optional_number_between 0 0 359 (spot key.LampTurn i) (get_member (codes "turn") lamp) turn (lit≤ tt, lit≤ tt) turn_is).1;
+      maintenance = (optional_number_between 1000 0 1000 (spot key.LampMaintenance i) (get_member (codes "maintenance") lamp) maintenance (lit≤ tt, lit≤ tt) maintenance_is).1;
+      size_x = (sizes.each_one 0 (lit< tt)).1;
+      size_y = (sizes.each_one 1 (lit< tt)).1;
+      split_x = splits.each_one 0 (lit< tt);
+      split_y = splits.each_one 1 (lit< tt);
+    })
+
+-- the parts of a lamp that the layout gives
 pub record HasLampParts (room : Size) (i : ℕ) (files : List FileUse) (d : Data) (r : Lamp × List FileUse) : Type 0 where
   pub lamp : Members
   pub at : List ℕ
-  pub candela : Option ℕ
-  pub file : Option (List ℕ)
-  pub set : ℕ
-  pub turn : ℕ
-  pub maintenance : ℕ
-  pub size : List ℕ
-  pub split : List ℕ
+  pub source : Source
+  pub fitting : Fitting
   pub lit : Shine × List FileUse
   pub lamp_is : table_with lamp_keys (spot key.Lamp i) d ≡ Ok lamp
-  pub candela_is : where_given (spot key.LampCandela i) (number 0 10000000) (get_member (codes "candela") lamp) ≡ Ok candela
-  pub file_is : where_given (spot key.LampFile i) name_text (get_member (codes "file") lamp) ≡ Ok file
-  pub set_is : optional 1 (spot key.LampSet i) (number 1 20) (get_member (codes "set") lamp) ≡ Ok set
-  pub turn_is : optional 0 (spot key.LampTurn i) (number 0 359) (get_member (codes "turn") lamp) ≡ Ok turn
-  pub maintenance_is : optional 1000 (spot key.LampMaintenance i) (number 0 1000) (get_member (codes "maintenance") lamp) ≡ Ok maintenance
-  pub size_is : optional (0 ∷ 0 ∷ []) (spot key.LampSize i) (numbers 2 0 5000) (get_member (codes "size") lamp) ≡ Ok size
-  pub split_is : optional (1 ∷ 1 ∷ []) (spot key.LampSplit i) (numbers 2 1 8) (get_member (codes "split") lamp) ≡ Ok split
-  pub lit_is : shine_of i files set candela file ≡ Ok lit
-  pub end_is : checked_lamp room i (lamp_from at lit.0 turn maintenance size split) lit.1 ≡ Ok r
+  pub source_is : source_of i lamp ≡ Ok source
+  pub fitting_is : fitting_of i lamp ≡ Ok fitting
+  pub lit_is : shine_of i files source.set source.candela source.file ≡ Ok lit
+  pub end_is : checked_lamp room i (lamp_from at lit.0 fitting) lit.1 ≡ Ok r
 
 pub lamp_parts : (room : Size) (i : ℕ) (files : List FileUse) (d : Data) (r : Lamp × List FileUse) → lamp_of room i files d ≡ Ok r → HasLampParts room i files d r
 unfolding lamp_of
 lamp_parts room i files d r e =
     let (lamp, lamp_is, e1) = bind_ok (table_with lamp_keys (spot key.Lamp i) d) _ r e in
     let (at, _, e2) = bind_ok (required (spot key.LampAt i) (numbers 3 0 50000) (get_member (codes "at") lamp)) _ r e1 in
-    let (candela, candela_is, e3) = bind_ok (where_given (spot key.LampCandela i) (number 0 10000000) (get_member (codes "candela") lamp)) _ r e2 in
-    let (file, file_is, e4) = bind_ok (where_given (spot key.LampFile i) name_text (get_member (codes "file") lamp)) _ r e3 in
-    let (set, set_is, e5) = bind_ok (optional 1 (spot key.LampSet i) (number 1 20) (get_member (codes "set") lamp)) _ r e4 in
-    let (turn, turn_is, e6) = bind_ok (optional 0 (spot key.LampTurn i) (number 0 359) (get_member (codes "turn") lamp)) _ r e5 in
-    let (maintenance, maintenance_is, e7) = bind_ok (optional 1000 (spot key.LampMaintenance i) (number 0 1000) (get_member (codes "maintenance") lamp)) _ r e6 in
-    let (size, size_is, e8) = bind_ok (optional (0 ∷ 0 ∷ []) (spot key.LampSize i) (numbers 2 0 5000) (get_member (codes "size") lamp)) _ r e7 in
-    let (split, split_is, e9) = bind_ok (optional (1 ∷ 1 ∷ []) (spot key.LampSplit i) (numbers 2 1 8) (get_member (codes "split") lamp)) _ r e8 in
-    let (lit, lit_is, e10) = bind_ok (shine_of i files set candela file) _ r e9 in
+    let (source, source_is, e3) = bind_ok (source_of i lamp) _ r e2 in
+    let (fitting, fitting_is, e4) = bind_ok (fitting_of i lamp) _ r e3 in
+    let (lit, lit_is, e5) = bind_ok (shine_of i files source.set source.candela source.file) _ r e4 in
     record {
       lamp = lamp;
       at = at;
-      candela = candela;
-      file = file;
-      set = set;
-      turn = turn;
-      maintenance = maintenance;
-      size = size;
-      split = split;
+      source = source;
+      fitting = fitting;
       lit = lit;
       lamp_is = lamp_is;
-      candela_is = candela_is;
-      file_is = file_is;
-      set_is = set_is;
-      turn_is = turn_is;
-      maintenance_is = maintenance_is;
-      size_is = size_is;
-      split_is = split_is;
+      source_is = source_is;
+      fitting_is = fitting_is;
       lit_is = lit_is;
-      end_is = e10;
+      end_is = e5;
     }
 
 -- the lamp of those values
 abbrev pub lamp_of_parts : {room : Size} {i : ℕ} {files : List FileUse} {d : Data} {r : Lamp × List FileUse} → HasLampParts room i files d r → Lamp
-lamp_of_parts p = lamp_from p.at p.lit.0 p.turn p.maintenance p.size p.split
+lamp_of_parts p = lamp_from p.at p.lit.0 p.fitting
 
 parts_accepted : (room : Size) (i : ℕ) (files : List FileUse) (d : Data) (r : Lamp × List FileUse) → HasLampParts room i files d r → IsLampWith room files r
 parts_accepted room i files d r p =
     let (same, inside, few) = checked_accepted room i (lamp_of_parts p) p.lit.1 r p.end_is in
-    let shine = shine_accepted i files p.set p.candela p.file p.lit p.lit_is
-    (optional_number_between 1 1 20 (spot key.LampSet i) (get_member (codes "set") p.lamp) p.set (lit≤ tt, lit≤ tt) p.set_is)
-    (candela_accepted i (get_member (codes "candela") p.lamp) p.candela p.candela_is) (name_accepted (spot key.LampFile i) (get_member (codes "file") p.lamp) p.file p.file_is) in
-    let sizes = optional_numbers_between (0 ∷ 0 ∷ []) 2 0 5000 (spot key.LampSize i) (get_member (codes "size") p.lamp) p.size no_size_between p.size_is in
-    let splits = optional_numbers_between (1 ∷ 1 ∷ []) 2 1 8 (spot key.LampSplit i) (get_member (codes "split") p.lamp) p.split no_split_between p.split_is in
+    let source = source_parts i p.lamp p.source p.source_is in
+    let shine = shine_accepted i files p.source.set p.source.candela p.source.file p.lit p.lit_is
+    (optional_number_between 1 1 20 (spot key.LampSet i) (get_member (codes "set") p.lamp) p.source.set (lit≤ tt, lit≤ tt) source.set)
+    (candela_accepted i (get_member (codes "candela") p.lamp) p.source.candela source.candela)
+    (name_accepted (spot key.LampFile i) (get_member (codes "file") p.lamp) p.source.file source.file) in
+    let fitting = fitting_accepted i p.lamp p.fitting p.fitting_is in
     subst (IsLampWith room files) same (record {
-      lamp = lamp_inside room (length p.lit.1) (lamp_of_parts p) inside shine.1
-          (optional_number_between 0 0 359 (spot key.LampTurn i) (get_member (codes "turn") p.lamp) p.turn (lit≤ tt, lit≤ tt) p.turn_is).1
-          (optional_number_between 1000 0 1000 (spot key.LampMaintenance i) (get_member (codes "maintenance") p.lamp) p.maintenance (lit≤ tt, lit≤ tt) p.maintenance_is).1
-          (sizes.each_one 0 (lit< tt)).1 (sizes.each_one 1 (lit< tt)).1 (splits.each_one 0 (lit< tt)) (splits.each_one 1 (lit< tt));
+      lamp = lamp_inside room (length p.lit.1) (lamp_of_parts p) inside shine.1 fitting.turn fitting.maintenance fitting.size_x fitting.size_y fitting.split_x fitting.split_y;
       extends = shine.0;
       few = few;
     })
@@ -229,7 +224,7 @@ pub record AreLampsWith (room : Size) (files : List FileUse) (count : ℕ) (r : 
 pub lamps_accepted : (room : Size) (i : ℕ) (files : List FileUse) (ds : List Data) (r : Lit) → length files ≤ 16 → lamps_from room i files ds ≡ Ok r → AreLampsWith room files (length ds) r
 lamps_accepted room i files [] r few e =
     let same : record { lamps = []; files = files } ≡ r = ok_same _ r e in
-    subst (AreLampsWith room files 0) same (record { as_many = refl; each_lamp = All-none _; extends = record { longer = omega arith; each_file = λ all. all }; few = few })
+    subst (AreLampsWith room files 0) same (record { as_many = refl; each_lamp = All-nil _; extends = record { longer = omega arith; each_file = λ all. all }; few = few })
 lamps_accepted room i files (d ∷ ds) r few e =
     let (l, lamp_is, e1) = bind_ok (lamp_of room i files d) (λ l. lamps_from room (i + 1) l.1 ds >>= λ r. Ok (record { lamps = l.0 ∷ r.lamps; files = r.files })) r e in
     let (rest, rest_is, e2) = bind_ok (lamps_from room (i + 1) l.1 ds) (λ r. Ok (record { lamps = l.0 ∷ r.lamps; files = r.files })) r e1 in

@@ -1,5 +1,6 @@
 -- A room that the layout gives is accepted, and a room that the part that is served gives is plain besides.
 use Rattle.std.proofs.Common.{◌≡◌, ℕ, ◌+◌, ◌≤◌, Bool, true, false, not, nat_le, cond, suc, List, [], ◌∷◌, length, All, Option, Some, None, Ok, Err, codes, refl, ap, subst, lit≤, sym, arith}
+use Rattle.std.proofs.lemmas.List.Elements.{All-nil, All-cons}
 use Rattle.toml.specs.Data.{Data, Members, get_member}
 use Rattle.room_layout.specs.declared.fault.Key.TheVariants as key
 use Rattle.room_layout.specs.declared.fault.RoomFault.{RoomFault}
@@ -16,7 +17,7 @@ use Rattle.room_layout.specs.Layout.{version_of, document_keys, shell_of, block_
 use Rattle.room_layout.specs.Accepted.{IsBlockIn, IsFileUse, IsAccepted}
 use Rattle.room_layout.proofs.Ranges.{bind_ok, ok_same, demand_ok}
 use Rattle.room_layout.proofs.Accepts.{le_from, shell_accepted, block_accepted, task_accepted, limits_accepted}
-use Rattle.room_layout.proofs.AcceptsLamps.{All-none, All-cons, AreLampsWith, lamps_accepted}
+use Rattle.room_layout.proofs.AcceptsLamps.{AreLampsWith, lamps_accepted}
 
 -- ---- how many elements
 
@@ -38,7 +39,7 @@ pub record AreBlocksIn (room : Size) (count : ℕ) (bs : List Block) : Type 0 wh
   pub each_block : All (IsBlockIn room) bs
 
 blocks_accepted : (room : Size) (i : ℕ) (ds : List Data) (bs : List Block) → blocks_from room i ds ≡ Ok bs → AreBlocksIn room (length ds) bs
-blocks_accepted room i [] bs e = let same : [] ≡ bs = ok_same _ bs e in subst (AreBlocksIn room 0) same (record { as_many = refl; each_block = All-none (IsBlockIn room) })
+blocks_accepted room i [] bs e = let same : [] ≡ bs = ok_same _ bs e in subst (AreBlocksIn room 0) same (record { as_many = refl; each_block = All-nil (IsBlockIn room) })
 blocks_accepted room i (d ∷ ds) bs e =
     let (b, first, e1) = bind_ok (block_of room i d) (λ b. blocks_from room (i + 1) ds >>= λ bs. Ok (b ∷ bs)) bs e in
     let (more, rest, e2) = bind_ok (blocks_from room (i + 1) ds) (λ bs. Ok (b ∷ bs)) bs e1 in
@@ -54,10 +55,14 @@ document_blocks room document bs e =
     let few = given_few 64 (spot key.Box 0) (get_member (codes "box") document) ds given in
     (subst (λ n. n ≤ 64) (sym blocks.as_many) few, blocks.each_block)
 
-document_lamps : (room : Size) (document : Members) (r : Lit) → lamps_of room document ≡ Ok r → (length r.lamps ≤ 256) × AreLampsWith room [] (length r.lamps) r
+-- the values of the array `lamp`, from which the lamps are read
+pub lamps_read : (room : Size) (document : Members) (r : Lit) → lamps_of room document ≡ Ok r → (ds : List Data) × (optional [] (spot key.Lamp 0) (elements 256) (get_member (codes "lamp") document) ≡ Ok ds) × (lamps_from room 0 [] ds ≡ Ok r)
 unfolding lamps_of
+lamps_read room document r e = bind_ok (optional [] (spot key.Lamp 0) (elements 256) (get_member (codes "lamp") document)) (lamps_from room 0 []) r e
+
+document_lamps : (room : Size) (document : Members) (r : Lit) → lamps_of room document ≡ Ok r → (length r.lamps ≤ 256) × AreLampsWith room [] (length r.lamps) r
 document_lamps room document r e =
-    let (ds, given, e1) = bind_ok (optional [] (spot key.Lamp 0) (elements 256) (get_member (codes "lamp") document)) (lamps_from room 0 []) r e in
+    let (ds, given, e1) = lamps_read room document r e in
     let lamps = lamps_accepted room 0 [] ds r (lit≤ tt) e1 in
     let few = given_few 256 (spot key.Lamp 0) (get_member (codes "lamp") document) ds given in
     (subst (λ n. n ≤ 256) (sym lamps.as_many) few, subst (λ n. AreLampsWith room [] n r) (sym lamps.as_many) lamps)
@@ -114,7 +119,7 @@ room_accepted document r e =
       lamp_count = lamps.0;
       each_lamp = rw (← parts.size_is) lamps.1.each_lamp;
       file_count = lamps.1.few;
-      each_file = lamps.1.extends.each_file (All-none IsFileUse);
+      each_file = lamps.1.extends.each_file (All-nil IsFileUse);
       task = rw (← parts.size_is) (task_accepted parts.shell.size document r.task parts.task_is);
       limits = limits_accepted document r.limits parts.limits_are;
     }

@@ -8,5 +8,8 @@ pub mod AcceptsRoom
 pub mod Apart
 pub mod Plain
 pub mod Document
+pub mod FilesOnce
+pub mod FilesAsked
+pub mod FilesTests
 pub mod Reordered
 pub mod ReorderedTests

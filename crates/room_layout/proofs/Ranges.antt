@@ -1,13 +1,13 @@
 -- What a check that gives a value says of it.
-use Rattle.std.proofs.Common.{◌≡◌, ℕ, ℤ, pos, negsuc, ◌<◌, ◌==◌, ◌&&◌, zero, suc, Bool, true, false, nat_le, if◌then◌else◌, List, [], ◌∷◌, length, get_or, Option, Some, None, Result, Ok, Err, refl, ap, subst, lit≤, arith}
+use Rattle.std.proofs.Common.{◌≡◌, ℕ, ℤ, pos, negsuc, ◌<◌, ◌==◌, ◌&&◌, zero, suc, Bool, true, false, nat_le, cond, if◌then◌else◌, List, [], ◌∷◌, length, get_or, Option, Some, None, Result, Ok, Err, refl, ap, subst, ◌∙◌, lit≤, arith}
 use Rattle.std.specs.List.{list_all}
 use Rattle.std.proofs.lemmas.Bool.{and_parts}
 use Rattle.std.proofs.lemmas.Bool.Decides.{nat_tests}
-use Rattle.toml.specs.Data.{Data, as_integer}
+use Rattle.toml.specs.Data.{Data, Members, as_integer, as_table}
 use Rattle.room_layout.specs.declared.fault.RoomFault.{RoomFault}
 use Rattle.room_layout.specs.declared.fault.RoomFault.TheVariants as fault
 use Rattle.room_layout.specs.declared.fault.Spot.{Spot}
-use Rattle.room_layout.specs.Checks.{◌>>=◌, demand, each, required, optional, kind, in_range, ranged, number, is_integer, array, all_numbers, numbers}
+use Rattle.room_layout.specs.Checks.{◌>>=◌, demand, each, required, optional, kind, in_range, ranged, number, is_integer, array, all_numbers, numbers, has_only, table_with}
 use Rattle.room_layout.specs.Accepted.{IsBetween}
 
 -- the first of two checks gave a value, and the second gave the answer from it
@@ -19,10 +19,28 @@ bind_ok (Err f) next y e = absurd (cc)
 pub ok_same : {A : Type 0} (x y : A) → ◌≡◌ {A = Result A RoomFault} (Ok x) (Ok y) → x ≡ y
 ok_same x y e = cc
 
+pub some_same : {A : Type 0} (x y : A) → Some x ≡ Some y → x ≡ y
+some_same x y e = cc
+
 -- a test that was demanded holds
 pub demand_ok : (b : Bool) (f : RoomFault) (u : Unit {0}) → demand b f ≡ Ok u → b ≡ true
 demand_ok true f u e = refl
 demand_ok false f u e = absurd (cc)
+
+-- where a test decides between a value and a fault, that value was given
+pub cond_ok : {A : Type 0} (x : A) (f : RoomFault) (b : Bool) (y : A) → cond b (Ok x) (Err f) ≡ Ok y → x ≡ y
+cond_ok x f true y e = ok_same x y e
+cond_ok x f false y e = absurd (cc)
+
+-- a value of the kind that was asked for
+pub kind_ok : {A : Type 0} (s : Spot) (o : Option A) (x : A) → kind s o ≡ Ok x → o ≡ Some x
+kind_ok s None x e = absurd (cc)
+kind_ok s (Some y) x e = ap Some (ok_same y x e)
+
+pub table_of : (known : List (List ℕ)) (s : Spot) (d : Data) (t : Members) → table_with known s d ≡ Ok t → as_table d ≡ Some t
+table_of known s d t e =
+    let (members, is, e1) = bind_ok (kind s (as_table d)) _ t e in
+    kind_ok s (as_table d) members is ∙ ap Some (cond_ok members (fault.Unknown s) (has_only known members) t e1)
 
 pub required_ok : {A : Type 0} (s : Spot) (check : Spot → Data → Result A RoomFault) (o : Option Data) (x : A) → required s check o ≡ Ok x → (d : Data) × (check s d ≡ Ok x)
 required_ok s check None x e = absurd (cc)

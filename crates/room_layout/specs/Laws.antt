@@ -4,6 +4,7 @@ use Rattle.room_layout.specs.declared.room.Room.{Room}
 use Rattle.toml.specs.Data.{Data, array, table, Items, no_items, item, Members, get_member}
 use Rattle.room_layout.specs.Layout.{room_of_document, room_of, built_room_of_document, built_room_of}
 use Rattle.room_layout.specs.Accepted.{IsAccepted, IsPlain}
+use Rattle.room_layout.specs.Files.{HasEachFileOnce, ShinesAsAsked}
 
 -- ---- the rooms
 
@@ -11,11 +12,16 @@ use Rattle.room_layout.specs.Accepted.{IsAccepted, IsPlain}
 abbrev pub GivesAccepted : Type 0
 GivesAccepted = (bytes : List ℕ) (r : Room) → room_of bytes ≡ Ok r → IsAccepted r
 
+-- a room of the whole layout has each pair of file and set that its lamps use once, in order of first use, and each lamp that shines by a
+-- file has the pair that its table in the document asks for
+abbrev pub GivesFiles : Type 0
+GivesFiles = (document : Members) (r : Room) → room_of_document document ≡ Ok r → HasEachFileOnce r × ShinesAsAsked document r
+
 -- the part of the layout that is served gives only what the whole gives
 abbrev pub ServesPart : Type 0
 ServesPart = (bytes : List ℕ) (r : Room) → built_room_of bytes ≡ Ok r → room_of bytes ≡ Ok r
 
--- a room that the part gives has what the other keys have where they aren't given
+-- a room that the part gives asks for no limits
 abbrev pub GivesPlain : Type 0
 GivesPlain = (bytes : List ℕ) (r : Room) → built_room_of bytes ≡ Ok r → IsPlain r
 

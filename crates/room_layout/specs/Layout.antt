@@ -1,5 +1,5 @@
 -- The room that a layout text describes, or the first fault in the order of checking. One rule for each key.
-use Rattle.std.specs.Prelude.{ℕ, ◌+◌, ◌*◌, ◌==◌, Bool, not, ◌&&◌, nat_le, nat_lt, if◌then◌else◌, List, [], ◌∷◌, ◌++◌, length, position, Option, Some, None, slice_index, Result, Ok, Err, codes}
+use Rattle.std.specs.Prelude.{ℕ, ◌+◌, ◌*◌, ◌==◌, Bool, not, ◌&&◌, nat_le, nat_lt, if◌then◌else◌, List, [], ◌∷◌, ◌++◌, length, position, Option, Some, None, option_map, slice_index, Result, Ok, Err, codes}
 use Rattle.std.specs.Str.{is_utf8, bytes_eq}
 use Rattle.toml.specs.Data.{Data, Members, get_member}
 use Rattle.toml.specs.Parse.{parse_document}
@@ -20,6 +20,8 @@ use Rattle.room_layout.specs.declared.room.TaskGrid.{TaskGrid}
 use Rattle.room_layout.specs.declared.room.Limits.{Limits}
 use Rattle.room_layout.specs.declared.room.Room.{Room}
 use Rattle.room_layout.specs.declared.parts.Shell.{Shell}
+use Rattle.room_layout.specs.declared.parts.Source.{Source as HeldSource}
+use Rattle.room_layout.specs.declared.parts.Fitting.{Fitting}
 use Rattle.room_layout.specs.declared.parts.Lit.{Lit}
 
 -- ---- sizes
@@ -107,16 +109,16 @@ has_margin at size edge = nat_le size (2 * at) && nat_le (2 * at + size) (2 * ed
 abbrev pub is_lamp_inside : Lamp → Size → Bool
 is_lamp_inside l room = fits_in l.at room && has_margin l.at.x l.size_x room.x && has_margin l.at.y l.size_y room.y
 
-abbrev pub lamp_from : List ℕ → Shine → ℕ → ℕ → List ℕ → List ℕ → Lamp
-lamp_from at shine turn maintenance size split = record {
+abbrev pub lamp_from : List ℕ → Shine → Fitting → Lamp
+lamp_from at shine f = record {
   at = size_from at;
   shine = shine;
-  turn = turn;
-  maintenance = maintenance;
-  size_x = slice_index size 0;
-  size_y = slice_index size 1;
-  split_x = slice_index split 0;
-  split_y = slice_index split 1;
+  turn = f.turn;
+  maintenance = f.maintenance;
+  size_x = f.size_x;
+  size_y = f.size_y;
+  split_x = f.split_x;
+  split_y = f.split_y;
 }
 
 -- lamp i, where it is within the room and brings no seventeenth file
@@ -129,20 +131,51 @@ checked_lamp room i lamp files = do
 abbrev pub lamp_keys : List (List ℕ)
 lamp_keys = codes "at" ∷ codes "candela" ∷ codes "file" ∷ codes "set" ∷ codes "turn" ∷ codes "maintenance" ∷ codes "size" ∷ codes "split" ∷ []
 
+-- what the keys of lamp i say of its light: its candela, its file, and which set of the file
+pub record Source : Type 0 where
+  pub candela : Option ℕ
+  pub file : Option (List ℕ)
+  pub set : ℕ
+
+-- the same, as the program holds it
+abbrev pub held_source : HeldSource → Source
+held_source s = record { candela = s.candela; file = option_map (λ name. name.now) s.file; set = s.set }
+
+unfoldable pub source_of : ℕ → Members → Result Source RoomFault
+source_of i lamp = do
+  candela ← where_given (spot key.LampCandela i) (number 0 10000000) (get_member (codes "candela") lamp)
+  file ← where_given (spot key.LampFile i) name_text (get_member (codes "file") lamp)
+  set ← optional 1 (spot key.LampSet i) (number 1 20) (get_member (codes "set") lamp)
+  Ok (record { candela = candela; file = file; set = set })
+
+abbrev pub fitting_from : ℕ → ℕ → List ℕ → List ℕ → Fitting
+fitting_from turn maintenance size split = record {
+  turn = turn;
+  maintenance = maintenance;
+  size_x = slice_index size 0;
+  size_y = slice_index size 1;
+  split_x = slice_index split 0;
+  split_y = slice_index split 1;
+}
+
+-- how lamp i is put up
+unfoldable pub fitting_of : ℕ → Members → Result Fitting RoomFault
+fitting_of i lamp = do
+  turn ← optional 0 (spot key.LampTurn i) (number 0 359) (get_member (codes "turn") lamp)
+  maintenance ← optional 1000 (spot key.LampMaintenance i) (number 0 1000) (get_member (codes "maintenance") lamp)
+  size ← optional (0 ∷ 0 ∷ []) (spot key.LampSize i) (numbers 2 0 5000) (get_member (codes "size") lamp)
+  split ← optional (1 ∷ 1 ∷ []) (spot key.LampSplit i) (numbers 2 1 8) (get_member (codes "split") lamp)
+  Ok (fitting_from turn maintenance size split)
+
 -- lamp i of a room of this size where these files are used before it, and the files after it
 unfoldable pub lamp_of : Size → ℕ → List FileUse → Data → Result (Lamp × List FileUse) RoomFault
 lamp_of room i files d = do
   lamp ← table_with lamp_keys (spot key.Lamp i) d
   at ← required (spot key.LampAt i) (numbers 3 0 50000) (get_member (codes "at") lamp)
-  candela ← where_given (spot key.LampCandela i) (number 0 10000000) (get_member (codes "candela") lamp)
-  file ← where_given (spot key.LampFile i) name_text (get_member (codes "file") lamp)
-  set ← optional 1 (spot key.LampSet i) (number 1 20) (get_member (codes "set") lamp)
-  turn ← optional 0 (spot key.LampTurn i) (number 0 359) (get_member (codes "turn") lamp)
-  maintenance ← optional 1000 (spot key.LampMaintenance i) (number 0 1000) (get_member (codes "maintenance") lamp)
-  size ← optional (0 ∷ 0 ∷ []) (spot key.LampSize i) (numbers 2 0 5000) (get_member (codes "size") lamp)
-  split ← optional (1 ∷ 1 ∷ []) (spot key.LampSplit i) (numbers 2 1 8) (get_member (codes "split") lamp)
-  lit ← shine_of i files set candela file
-  checked_lamp room i (lamp_from at lit.0 turn maintenance size split) lit.1
+  source ← source_of i lamp
+  fitting ← fitting_of i lamp
+  lit ← shine_of i files source.set source.candela source.file
+  checked_lamp room i (lamp_from at lit.0 fitting) lit.1
 
 -- the lamps from lamp i on
 abbrev pub lamps_from : Size → ℕ → List FileUse → List Data → Result Lit RoomFault

@@ -10,7 +10,7 @@ use Rattle.room_layout.specs.declared.room.FileUse.{FileUse}
 use Rattle.room_layout.specs.declared.room.Lamp.{Lamp}
 use Rattle.room_layout.specs.declared.room.Room.{Room}
 use Rattle.room_layout.specs.declared.room.Shine.TheVariants.{Even, File}
-use Rattle.room_layout.specs.Layout.{has_margin, placed, document_of, shell_of, block_of, blocks_of, shine_of, checked_lamp, lamp_of, lamps_of, task_of, limits_in, limits_of, version_of, room_of_document, room_of, built_room_of_document, built_room_of}
+use Rattle.room_layout.specs.Layout.{has_margin, placed, document_of, shell_of, block_of, blocks_of, source_of, fitting_of, shine_of, checked_lamp, lamp_of, lamps_of, task_of, limits_in, limits_of, version_of, room_of_document, room_of, built_room_of_document, built_room_of}
 use Rattle.room_layout.specs.Served.{is_unserved}
 
 no_version : room_of (codes "room = 1") ≡ Err fault.Version
@@ -48,7 +48,7 @@ hall = record {
 }
 
 hall_read : built_room_of hall_text ≡ Ok hall
-unfolding is_utf8 chars toml_on_literals built_room_of built_room_of_document is_unserved document_of room_of_document version_of shell_of blocks_of lamps_of lamp_of shine_of checked_lamp task_of limits_of
+unfolding is_utf8 chars toml_on_literals built_room_of built_room_of_document is_unserved document_of room_of_document version_of shell_of blocks_of lamps_of lamp_of source_of fitting_of shine_of checked_lamp task_of limits_of
 hall_read = refl
 
 -- the same hall with its tables and their keys in another order
@@ -66,16 +66,16 @@ turned_hall_text =
     (codes "size = [6000, 6000, 3000]")))))))))
 
 turned_hall_read : built_room_of (line (codes "version = 1") turned_hall_text) ≡ Ok hall
-unfolding is_utf8 chars toml_on_literals built_room_of built_room_of_document is_unserved document_of room_of_document version_of shell_of blocks_of lamps_of lamp_of shine_of checked_lamp task_of limits_of
+unfolding is_utf8 chars toml_on_literals built_room_of built_room_of_document is_unserved document_of room_of_document version_of shell_of blocks_of lamps_of lamp_of source_of fitting_of shine_of checked_lamp task_of limits_of
 turned_hall_read = refl
 
 -- a lamp outside the room is refused before the missing task
 lamp_outside_first : built_room_of (line (codes "version = 1") (line (codes "[room]") (line (codes "size = [500, 500, 500]") (line (codes "[[lamp]]") (line (codes "at = [501, 0, 0]") (codes "candela = 1")))))) ≡ Err (fault.Outside (spot key.Lamp 0))
-unfolding is_utf8 chars toml_on_literals built_room_of built_room_of_document is_unserved document_of room_of_document version_of shell_of blocks_of lamps_of lamp_of shine_of checked_lamp task_of limits_of
+unfolding is_utf8 chars toml_on_literals built_room_of built_room_of_document is_unserved document_of room_of_document version_of shell_of blocks_of lamps_of lamp_of source_of fitting_of shine_of checked_lamp task_of limits_of
 lamp_outside_first = refl
 
 limits_not_built : built_room_of (line (codes "limits = {}") hall_text) ≡ Err fault.NotBuilt
-unfolding is_utf8 chars toml_on_literals built_room_of built_room_of_document is_unserved document_of room_of_document version_of shell_of blocks_of lamps_of lamp_of shine_of checked_lamp task_of limits_in limits_of
+unfolding is_utf8 chars toml_on_literals built_room_of built_room_of_document is_unserved document_of room_of_document version_of shell_of blocks_of lamps_of lamp_of source_of fitting_of shine_of checked_lamp task_of limits_in limits_of
 limits_not_built = refl
 
 -- a room with reflecting surfaces, a longest edge of a patch and a box
@@ -109,50 +109,49 @@ furnished = record {
 }
 
 furnished_read : built_room_of furnished_text ≡ Ok furnished
-unfolding is_utf8 chars toml_on_literals built_room_of built_room_of_document is_unserved document_of room_of_document version_of shell_of blocks_of block_of lamps_of lamp_of shine_of checked_lamp task_of limits_of
+unfolding is_utf8 chars toml_on_literals built_room_of built_room_of_document is_unserved document_of room_of_document version_of shell_of blocks_of block_of lamps_of lamp_of source_of fitting_of shine_of checked_lamp task_of limits_of
 furnished_read = refl
 
 -- ---- one fault of each kind
 
 -- a key without a value
 no_value : built_room_of (codes "version =") ≡ Err fault.NotToml
-unfolding is_utf8 chars toml_on_literals built_room_of built_room_of_document is_unserved document_of room_of_document version_of shell_of blocks_of lamps_of lamp_of shine_of checked_lamp task_of limits_of
+unfolding is_utf8 chars toml_on_literals built_room_of built_room_of_document is_unserved document_of room_of_document version_of shell_of blocks_of lamps_of lamp_of source_of fitting_of shine_of checked_lamp task_of limits_of
 no_value = refl
 
 -- the version alone
 no_room : built_room_of (codes "version = 1") ≡ Err (fault.Missing (spot key.Room 0))
-unfolding is_utf8 chars toml_on_literals built_room_of built_room_of_document is_unserved document_of room_of_document version_of shell_of blocks_of lamps_of lamp_of shine_of checked_lamp task_of limits_of
+unfolding is_utf8 chars toml_on_literals built_room_of built_room_of_document is_unserved document_of room_of_document version_of shell_of blocks_of lamps_of lamp_of source_of fitting_of shine_of checked_lamp task_of limits_of
 no_room = refl
 
 -- an unknown key at the top comes before the room
 unknown_key : built_room_of (line (codes "version = 1") (codes "colour = 1")) ≡ Err (fault.Unknown (spot key.Version 0))
-unfolding is_utf8 chars toml_on_literals built_room_of built_room_of_document is_unserved document_of room_of_document version_of shell_of blocks_of lamps_of lamp_of shine_of checked_lamp task_of limits_of
+unfolding is_utf8 chars toml_on_literals built_room_of built_room_of_document is_unserved document_of room_of_document version_of shell_of blocks_of lamps_of lamp_of source_of fitting_of shine_of checked_lamp task_of limits_of
 unknown_key = refl
 
 -- a room that is no table
 room_of_a_number : built_room_of (line (codes "version = 1") (codes "room = 1")) ≡ Err (fault.Kind (spot key.Room 0))
-unfolding is_utf8 chars toml_on_literals built_room_of built_room_of_document is_unserved document_of room_of_document version_of shell_of blocks_of lamps_of lamp_of shine_of checked_lamp task_of limits_of
+unfolding is_utf8 chars toml_on_literals built_room_of built_room_of_document is_unserved document_of room_of_document version_of shell_of blocks_of lamps_of lamp_of source_of fitting_of shine_of checked_lamp task_of limits_of
 room_of_a_number = refl
 
 -- an edge below 500 mm
 short_room : built_room_of (line (codes "version = 1") (codes "room = { size = [499, 6000, 3000] }")) ≡ Err (fault.Range (spot key.RoomSize 0))
-unfolding is_utf8 chars toml_on_literals built_room_of built_room_of_document is_unserved document_of room_of_document version_of shell_of blocks_of lamps_of lamp_of shine_of checked_lamp task_of limits_of
+unfolding is_utf8 chars toml_on_literals built_room_of built_room_of_document is_unserved document_of room_of_document version_of shell_of blocks_of lamps_of lamp_of source_of fitting_of shine_of checked_lamp task_of limits_of
 short_room = refl
 
 -- 33 times 32 points are 1056
 many_points : built_room_of (line (codes "version = 1") (line (codes "room = { size = [500, 500, 500] }") (codes "task = { from = [0, 0], to = [1, 1], height = 0, points = [33, 32] }"))) ≡ Err (fault.TooMany (spot key.TaskPoints 0))
-unfolding is_utf8 chars toml_on_literals built_room_of built_room_of_document is_unserved document_of room_of_document version_of shell_of blocks_of lamps_of lamp_of shine_of checked_lamp task_of limits_of
+unfolding is_utf8 chars toml_on_literals built_room_of built_room_of_document is_unserved document_of room_of_document version_of shell_of blocks_of lamps_of lamp_of source_of fitting_of shine_of checked_lamp task_of limits_of
 many_points = refl
 
 -- ---- every key
 
-abbrev whole_text : List ℕ
-whole_text =
+abbrev served_text : List ℕ
+served_text =
     line (codes "version = 1")
     (line (codes "room = { size = [6000, 5000, 3000], reflect = [201, 702, 503, 504, 505, 506], patch = 650 }")
     (line (codes "box = [{ lo = [1, 2, 3], hi = [1004, 505, 706], reflect = 307 }]")
     (line (codes "task = { from = [11, 12], to = [5993, 4994], height = 715, points = [9, 7] }")
-    (line (codes "limits = { average_millilux = 500001, uniformity_permille = 402 }")
     (line (codes "[[lamp]]")
     (line (codes "at = [1001, 1002, 2503]")
     (line (codes "file = 'a.ldt'")
@@ -167,14 +166,17 @@ whole_text =
     (line (codes "[[lamp]]")
     (line (codes "at = [6000, 5000, 3000]")
     (line (codes "file = 'a.ldt'")
-    (codes "set = 2")))))))))))))))))))
+    (codes "set = 2"))))))))))))))))))
+
+abbrev whole_text : List ℕ
+whole_text = line (codes "limits = { average_millilux = 500001, uniformity_permille = 402 }") served_text
 
 abbrev plain_lamp : ℕ → ℕ → ℕ → ℕ → Lamp
 plain_lamp x y z index = record { at = record { x = x; y = y; z = z }; shine = File index; turn = 0; maintenance = 1000; size_x = 0; size_y = 0; split_x = 1; split_y = 1 }
 
 -- two pairs of file and set, of which the first and the third lamp have the same
-abbrev whole_room : Room
-whole_room = record {
+abbrev served_room : Room
+served_room = record {
   size = record { x = 6000; y = 5000; z = 3000 };
   reflect = record { floor = 201; ceiling = 702; x0 = 503; x1 = 504; y0 = 505; y1 = 506 };
   patch = 650;
@@ -184,11 +186,18 @@ whole_room = record {
       ∷ plain_lamp 0 0 0 1 ∷ plain_lamp 6000 5000 3000 0 ∷ [];
   files = record { name = codes "a.ldt"; set = 2 } ∷ record { name = codes "a.ldt"; set = 1 } ∷ [];
   task = record { from_x = 11; from_y = 12; to_x = 5993; to_y = 4994; height = 715; nx = 9; ny = 7 };
-  limits = record { average = Some 500001; uniformity = Some 402 };
+  limits = record { average = None; uniformity = None };
 }
 
+served_read : built_room_of served_text ≡ Ok served_room
+unfolding is_utf8 chars toml_on_literals built_room_of built_room_of_document is_unserved document_of room_of_document version_of shell_of blocks_of block_of lamps_of lamp_of source_of fitting_of shine_of checked_lamp task_of limits_of
+served_read = refl
+
+abbrev whole_room : Room
+whole_room = record served_room { limits = record { average = Some 500001; uniformity = Some 402 } }
+
 whole_read : room_of whole_text ≡ Ok whole_room
-unfolding is_utf8 chars toml_on_literals room_of document_of room_of_document version_of shell_of blocks_of block_of lamps_of lamp_of shine_of checked_lamp task_of limits_in limits_of
+unfolding is_utf8 chars toml_on_literals room_of document_of room_of_document version_of shell_of blocks_of block_of lamps_of lamp_of source_of fitting_of shine_of checked_lamp task_of limits_in limits_of
 whole_read = refl
 
 -- ---- lamps and boxes at the edge of what is accepted
@@ -199,12 +208,12 @@ closet_with more = line (codes "version = 1") (line (codes "room = { size = [500
 
 -- the set's range is asked where there is no file, and before it is seen that nothing shines
 set_without_file : room_of (closet_with (codes "lamp = [{ at = [0, 0, 0], set = 21 }]")) ≡ Err (fault.Range (spot key.LampSet 0))
-unfolding is_utf8 chars toml_on_literals room_of document_of room_of_document version_of shell_of blocks_of lamps_of lamp_of shine_of checked_lamp task_of limits_of
+unfolding is_utf8 chars toml_on_literals room_of document_of room_of_document version_of shell_of blocks_of lamps_of lamp_of source_of fitting_of shine_of checked_lamp task_of limits_of
 set_without_file = refl
 
 -- the second box is turned over and passes the room
 box_turned_over : room_of (closet_with (codes "box = [{ lo = [0, 0, 0], hi = [500, 500, 500] }, { lo = [0, 0, 9], hi = [501, 1, 9] }]")) ≡ Err (fault.Range (spot key.BoxHi 1))
-unfolding is_utf8 chars toml_on_literals room_of document_of room_of_document version_of shell_of blocks_of block_of lamps_of lamp_of shine_of checked_lamp task_of limits_of
+unfolding is_utf8 chars toml_on_literals room_of document_of room_of_document version_of shell_of blocks_of block_of lamps_of lamp_of source_of fitting_of shine_of checked_lamp task_of limits_of
 box_turned_over = refl
 
 -- neither candela nor file, and both

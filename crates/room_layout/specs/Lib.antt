@@ -8,4 +8,5 @@ pub mod LayoutTests
 pub mod Accepted
 pub mod FaultText
 pub mod FaultTextTests
+pub mod Files
 pub mod Laws

@@ -1,13 +1,13 @@
 //! The lamps of a layout, and the files that they use.
 ghost use Rattle.std.specs.Prelude.{◌≡◌, ◌≢◌, ◌≤◌, map, [], length, position, option_map, Result, Ok, Err, IfOk, IfErr, OnOk};
 ghost use Rattle.toml.specs.View.{view, table_view};
-ghost use Rattle.room_layout.specs.Layout.{is_same_use, has_margin, is_lamp_inside, lamp_from, shine_of, lamp_of, lamps_from, lamps_of, placed};
+ghost use Rattle.room_layout.specs.Layout.{is_same_use, has_margin, is_lamp_inside, lamp_from, held_source, source_of, fitting_of, shine_of, checked_lamp, lamp_of, lamps_from, lamps_of, placed};
 
 use crate::check::{
     elements, member, name_where_given, number_where_given, optional_number, optional_numbers,
     required_numbers, table_with,
 };
-use crate::parts::Lit;
+use crate::parts::{Fitting, Lit, Source};
 use crate::sizes::{fits_in, size_from};
 use crate::{FileUse, FileUses, Key, Lamp, Lamps, Name, RoomFault, Shine, Size, Spot};
 use std::alloc::Global;
@@ -47,7 +47,7 @@ fn read_each(alloc: Global, values: &[Value], room: Size) -> Result<Lit, RoomFau
 }
 
 /// The lamp at this index. A file that no earlier lamp uses is added to `files`.
-#[tactic(auto, unfolding(crate::specs::Layout::lamp_of, crate::specs::Layout::checked_lamp))]
+#[tactic(auto, unfolding(crate::specs::Layout::lamp_of))]
 fn read_lamp(
     alloc: Global,
     files: &mut Vec<FileUse>,
@@ -75,6 +75,20 @@ fn read_lamp(
         Spot::at(Key::Lamp, index),
     )?;
     let at = required_numbers::<3>(table, "at", 0, 50_000, Spot::at(Key::LampAt, index))?;
+    let source = read_source(table, index)?;
+    let fitting = read_fitting(table, index)?;
+    let shine = read_shine(alloc, files, index, source)?;
+    let lamp = lamp_from(at, shine, fitting);
+    check_lamp(lamp, files, room, index)?;
+    Ok(lamp)
+}
+
+/// What the keys of the lamp at this index say of its light.
+#[tactic(auto, unfolding(crate::specs::Layout::source_of))]
+fn read_source(table: &Table, index: u32) -> Result<Source<'_>, RoomFault>
+    ensures given { IfOk result (λ source. source_of index (table_view table.now) ≡ Ok (held_source source)) }
+    ensures refused { IfErr result (λ e. source_of index (table_view table.now) ≡ Err e) }
+{
     let candela = number_where_given(
         table,
         "candela",
@@ -84,6 +98,14 @@ fn read_lamp(
     )?;
     let file = name_where_given(table, "file", Spot::at(Key::LampFile, index))?;
     let set = optional_number(table, "set", 1, 1, 20, Spot::at(Key::LampSet, index))?;
+    Ok(Source { candela, file, set })
+}
+
+/// How the lamp at this index is put up.
+#[tactic(auto, unfolding(crate::specs::Layout::fitting_of))]
+fn read_fitting(table: &Table, index: u32) -> Result<Fitting, RoomFault>
+    ensures { result ≡ fitting_of index (table_view table.now) }
+{
     let turn = optional_number(table, "turn", 0, 0, 359, Spot::at(Key::LampTurn, index))?;
     let maintenance = optional_number(
         table,
@@ -109,24 +131,45 @@ fn read_lamp(
         8,
         Spot::at(Key::LampSplit, index),
     )?;
-    let shine = read_shine(alloc, files, index, set, candela, file)?;
-    let lamp = Lamp {
-        at: size_from(at),
-        shine,
+    Ok(Fitting {
         turn: turn as u16,
         maintenance: maintenance as u16,
         size_x: size[0],
         size_y: size[1],
         split_x: split[0],
         split_y: split[1],
-    };
+    })
+}
+
+fn lamp_from(at: [u32; 3], shine: Shine, fitting: Fitting) -> Lamp
+    ensures { result ≡ lamp_from at shine fitting }
+{
+    Lamp {
+        at: size_from(at),
+        shine,
+        turn: fitting.turn,
+        maintenance: fitting.maintenance,
+        size_x: fitting.size_x,
+        size_y: fitting.size_y,
+        split_x: fitting.split_x,
+        split_y: fitting.split_y,
+    }
+}
+
+/// That the lamp at this index is within the room, and that no more files are used with it than a room may have.
+#[tactic(auto, unfolding(crate::specs::Layout::checked_lamp))]
+fn check_lamp(lamp: Lamp, files: &[FileUse], room: Size, index: u32) -> Result<(), RoomFault>
+    ensures given { OnOk result (checked_lamp room index lamp files.now ≡ Ok (lamp, files.now)) }
+    ensures refused { IfErr result (λ e. checked_lamp room index lamp files.now ≡ Err e) }
+    ensures few { OnOk result (length files.now ≤ 16) }
+{
     if !is_lamp_inside(lamp, room) {
         return Err(RoomFault::Outside(Spot::at(Key::Lamp, index)));
     }
     if files.len() > 16 {
         return Err(RoomFault::TooMany(Spot::at(Key::LampFile, index)));
     }
-    Ok(lamp)
+    Ok(())
 }
 
 /// How the lamp at this index shines: by its candela or its file, of which it has exactly one.
@@ -135,20 +178,18 @@ fn read_shine(
     alloc: Global,
     files: &mut Vec<FileUse>,
     index: u32,
-    set: u32,
-    candela: Option<u32>,
-    file: Option<&str>,
+    source: Source,
 ) -> Result<Shine, RoomFault>
     requires { length files.old.items ≤ 16 }
-    ensures given { IfOk result (λ shine. shine_of index files.old.items set candela (option_map (λ name. name.now) file.entry) ≡ Ok (shine, files.new.items)) }
-    ensures refused { IfErr result (λ e. e ≢ RoomFault.Memory → shine_of index files.old.items set candela (option_map (λ name. name.now) file.entry) ≡ Err e) }
+    ensures given { IfOk result (λ shine. shine_of index files.old.items source.entry.set source.entry.candela (held_source source.entry).file ≡ Ok (shine, files.new.items)) }
+    ensures refused { IfErr result (λ e. e ≢ RoomFault.Memory → shine_of index files.old.items source.entry.set source.entry.candela (held_source source.entry).file ≡ Err e) }
 {
-    match (candela, file) {
+    match (source.candela, source.file) {
         (None, None) => Err(RoomFault::Missing(Spot::at(Key::LampCandela, index))),
         (Some(_), Some(_)) => Err(RoomFault::Kind(Spot::at(Key::LampFile, index))),
         (Some(candela), None) => Ok(Shine::Even(candela)),
         (None, Some(name)) => {
-            let place = file_place(alloc, files, name, set)?;
+            let place = file_place(alloc, files, name, source.set)?;
             Ok(Shine::File(place))
         }
     }

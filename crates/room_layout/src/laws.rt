@@ -1,9 +1,15 @@
 //! Laws of the layout: each function's clause is the law, and the function does nothing.
-ghost use Rattle.room_layout.specs.Laws.{GivesAccepted, ServesPart, GivesPlain, IgnoresOrder};
+ghost use Rattle.room_layout.specs.Laws.{GivesAccepted, GivesFiles, ServesPart, GivesPlain, IgnoresOrder};
 
 /// A room that the whole layout gives is within every range and limit.
 pub fn gives_accepted()
     ensures { GivesAccepted }
+{}
+
+/// A room that the whole layout gives has each pair of file and lamp set that its lamps use once, in order of first use, and a lamp that
+/// shines by a file has the name and the set that its table in the document gives.
+pub fn gives_files()
+    ensures { GivesFiles }
 {}
 
 /// The part of the layout that is served gives only what the whole gives.
@@ -11,7 +17,7 @@ pub fn serves_part()
     ensures { ServesPart }
 {}
 
-/// A room that the served part gives has what the other keys have where they aren't given.
+/// A room that the served part gives asks for no limits.
 pub fn gives_plain()
     ensures { GivesPlain }
 {}

@@ -23,5 +23,6 @@ pub use geometry::{Face, Point, Position, Size};
 pub use position::{in_front, position_of, squared_distance};
 pub use read::read_room;
 pub use room::{
-    Block, Blocks, FileUse, FileUses, Lamp, Lamps, Limits, Name, Reflects, Room, Shine, TaskGrid,
+    Block, Blocks, FileUse, FileUses, Lamp, Lamps, Limits, Listed, Name, Reflects, Room, Shine,
+    TaskGrid,
 };

@@ -3,6 +3,7 @@ ghost use Rattle.std.specs.Prelude.{◌≡◌, ◌≢◌, ◌≤◌, is_some, Re
 ghost use Rattle.toml.specs.View.{view, table_view};
 ghost use Rattle.room_layout.specs.Layout.{task_from, is_rising, is_task_inside, version_of, shell_of, task_of, limits_of, limits_in, room_of_document, document_of, built_room_of_document, built_room_of};
 ghost use Rattle.room_layout.specs.Accepted.{IsAccepted, IsPlain};
+ghost use Rattle.room_layout.specs.Files.{HasEachFileOnce};
 
 use crate::blocks::read_blocks;
 use crate::check::{
@@ -23,6 +24,7 @@ pub fn read_room(alloc: Global, bytes: &[u8]) -> Result<Room, RoomFault>
     ensures accepted { IfOk result (λ r. built_room_of bytes.now ≡ Ok r) }
     ensures refused { IfErr result (λ e. e ≢ RoomFault.Memory → built_room_of bytes.now ≡ Err e) }
     ensures bounds { IfOk result IsAccepted }
+    ensures files { IfOk result HasEachFileOnce }
     ensures plain { IfOk result IsPlain }
 {
     let document = parse(alloc, bytes)?;

@@ -1,4 +1,4 @@
-//! A room and what is in it. Lists of boxes, lamps and files are types of their own, which contracts see as lists.
+//! A room and what is in it. Its lists of boxes, lamps and files are of one type, which contracts see as a list.
 ghost use Rattle.std.specs.Prelude.{◌≡◌, IfOk, length};
 
 use crate::Size;
@@ -114,76 +114,34 @@ pub struct Room {
     pub limits: Limits,
 }
 
-/// The boxes of a room, in the order of the layout.
+/// Values in the order of the layout. Contracts see it as their list.
 #[derive(Debug, Drop)]
-pub struct Blocks {
-    kept: Vec<Block>,
+pub struct Listed<T> {
+    kept: Vec<T>,
 }
 
-impl Model for Blocks {
+impl<T> Model for Listed<T> {
     ghost use Rattle.std.specs.Prelude.{List};
-    ghost use Rattle.room_layout.specs.declared.room.Block.{Block};
 
-    ghost Value = { List Block };
-
-    ghost view = { λ b. b.kept.items };
-}
-
-impl Blocks {
-    pub fn from_vec(blocks: Vec<Block>) -> Blocks
-        ensures { result ≡ blocks.items }
-    {
-        Blocks { kept: blocks }
-    }
-
-    pub fn into_vec(self) -> Vec<Block>
-        ensures { result.items ≡ self }
-    {
-        self.kept
-    }
-
-    pub fn as_slice(&self) -> &[Block]
-        ensures { result.now ≡ self.now }
-    {
-        self.kept.as_slice()
-    }
-
-    pub fn len(&self) -> usize
-        ensures { result ≡ length self.now }
-    {
-        self.kept.len()
-    }
-}
-
-/// The lamps of a room, in the order of the layout.
-#[derive(Debug, Drop)]
-pub struct Lamps {
-    kept: Vec<Lamp>,
-}
-
-impl Model for Lamps {
-    ghost use Rattle.std.specs.Prelude.{List};
-    ghost use Rattle.room_layout.specs.declared.room.Lamp.{Lamp};
-
-    ghost Value = { List Lamp };
+    ghost Value = { List T };
 
     ghost view = { λ l. l.kept.items };
 }
 
-impl Lamps {
-    pub fn from_vec(lamps: Vec<Lamp>) -> Lamps
-        ensures { result ≡ lamps.items }
+impl<T> Listed<T> {
+    pub fn from_vec(values: Vec<T>) -> Listed<T>
+        ensures { result ≡ values.items }
     {
-        Lamps { kept: lamps }
+        Listed { kept: values }
     }
 
-    pub fn into_vec(self) -> Vec<Lamp>
+    pub fn into_vec(self) -> Vec<T>
         ensures { result.items ≡ self }
     {
         self.kept
     }
 
-    pub fn as_slice(&self) -> &[Lamp]
+    pub fn as_slice(&self) -> &[T]
         ensures { result.now ≡ self.now }
     {
         self.kept.as_slice()
@@ -195,44 +153,12 @@ impl Lamps {
         self.kept.len()
     }
 }
+
+/// The boxes of a room.
+pub type Blocks = Listed<Block>;
+
+/// The lamps of a room.
+pub type Lamps = Listed<Lamp>;
 
 /// The distinct pairs of file and lamp set that a room's lamps use, in order of first use.
-#[derive(Debug, Drop)]
-pub struct FileUses {
-    kept: Vec<FileUse>,
-}
-
-impl Model for FileUses {
-    ghost use Rattle.std.specs.Prelude.{List};
-    ghost use Rattle.room_layout.specs.declared.room.FileUse.{FileUse};
-
-    ghost Value = { List FileUse };
-
-    ghost view = { λ f. f.kept.items };
-}
-
-impl FileUses {
-    pub fn from_vec(files: Vec<FileUse>) -> FileUses
-        ensures { result ≡ files.items }
-    {
-        FileUses { kept: files }
-    }
-
-    pub fn into_vec(self) -> Vec<FileUse>
-        ensures { result.items ≡ self }
-    {
-        self.kept
-    }
-
-    pub fn as_slice(&self) -> &[FileUse]
-        ensures { result.now ≡ self.now }
-    {
-        self.kept.as_slice()
-    }
-
-    pub fn len(&self) -> usize
-        ensures { result ≡ length self.now }
-    {
-        self.kept.len()
-    }
-}
+pub type FileUses = Listed<FileUse>;

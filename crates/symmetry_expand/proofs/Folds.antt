@@ -1,5 +1,5 @@
 -- The angle that a direction has the intensity of is the one that stands for it.
-use Rattle.std.proofs.Common.{ℕ, zero, suc, ◌+◌, ◌*◌, ◌≤◌, ◌≡◌, arith, ap, refl, inl, inr, Bool, true, false, if◌then◌else◌}
+use Rattle.std.proofs.Common.{ℕ, zero, suc, ◌+◌, ◌*◌, ◌≤◌, ◌≡◌, arith, ap, inl, inr}
 use Rattle.fx_base.specs.Fraction.{Fraction, ◌≤ᶠ◌, ◌<ᶠ◌, ◌≈ᶠ◌, ◌+ᶠ◌, ◌-ᶠ◌, at_most, whole}
 use Rattle.fx_base.specs.Interval.{Interval}
 use Rattle.fx_base.specs.Units.{millionths}

@@ -13,3 +13,4 @@ pub mod Folds
 pub mod Across
 pub mod AllFolded
 pub mod Measures
+pub mod FromLists

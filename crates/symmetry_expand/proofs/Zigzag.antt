@@ -1,9 +1,8 @@
 -- The steps to and fro.
-use Rattle.std.proofs.Common.{ℕ, zero, suc, ◌+◌, ◌-◌, ◌*◌, ◌/◌, ◌%◌, ◌<◌, ◌≤◌, ◌≡◌, ◌^◌, List, length, slice_index_or, arith, sym, refl, inl, inr, nat_le, true, false, if◌then◌else◌}
+use Rattle.std.proofs.Common.{ℕ, zero, suc, ◌+◌, ◌-◌, ◌*◌, ◌/◌, ◌%◌, ◌<◌, ◌≤◌, ◌≡◌, ◌^◌, List, length, slice_index_or, arith, sym, refl, inl, inr, nat_le, if◌then◌else◌}
 use Rattle.std.proofs.Math.Nat.{add-mul-div_left, add-mul-mod_self_left, mul-le-mul_left}
 use Rattle.std.proofs.lemmas.Nat.{div-mul-add, mod-mul-add}
 use Rattle.std.proofs.lemmas.Bool.{cases_lt}
-use Rattle.std.proofs.lemmas.Bool.Decides.{nat_tests}
 use Rattle.fx_base.proofs.Truth.{le_false, le_true}
 use Rattle.symmetry_expand.specs.Steps.{last_place, last_of, there_and_back, zigzag, source}
 use Rattle.symmetry_expand.proofs.Planes.{RiseOnce, at_most_last, first_below_last, last_most}

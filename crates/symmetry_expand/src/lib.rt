@@ -10,3 +10,6 @@ mod turn;
 
 pub use expansion::{expand, planes_run};
 pub use symmetry::{ExpandFault, Measured, Stored, Symmetry, stored_planes};
+
+#[cfg(test)]
+mod tests;

@@ -1,4 +1,3 @@
-use Rattle.std.proofs.Common.{◌*◌}
 use Rattle.fx_base.specs.Units.{natural}
 use Rattle.room_layout.specs.Place.{place_of}
 use Rattle.direct_light.proofs.Shown.{lit_meets, lit_near, dark_meets, dark_near, way_apart}

@@ -1,26 +1,19 @@
--- The head and what follows it.
+-- No file is refused for want of memory in the planes' name.
 use Rattle.std.proofs.Common.{refl}
+use Rattle.std.proofs.lemmas.Result.{err_from_is_err_and}
 use Rattle.eulumdat_read.specs.Ldt.{ldt}
 use Rattle.eulumdat_read.specs.Lines.{lines_of}
 use Rattle.eulumdat_read.proofs.FileFaults.{never_want}
 use Rattle.eulumdat_read.proofs.body.read_ldt.Goals as goal
 
-pub returns-in-Err-clause-refused : goal.returns-in-Err-clause-refused
+pub returns-in_err-head-clause-planes : goal.returns-in_err-head-clause-planes
 unfolding ldt
-returns-in-Err-clause-refused c = λ n. rw c.in-Err.ensures refl
+returns-in_err-head-clause-planes c =
+    let p = err_from_is_err_and c.from_residual.result c.from_residual.ensures.1 in
+    rw (p.1, p.2) (never_want (lines_of c.args.bytes.now) c.args.lamp_set c.in_err-head.field-0.0 (λ n. rw c.in_err-head.ensures refl))
 
-pub returns-in-Err-clause-planes : goal.returns-in-Err-clause-planes
+pub returns-in_err-table-clause-planes : goal.returns-in_err-table-clause-planes
 unfolding ldt
-returns-in-Err-clause-planes c = never_want (lines_of c.args.bytes.now) c.args.lamp_set c.in-Err.fault (λ n. rw c.in-Err.ensures refl)
-
-pub returns-in-Err-read_body-clause-refused : goal.returns-in-Err-read_body-clause-refused
-unfolding ldt
-returns-in-Err-read_body-clause-refused c = λ n. rw c.in-Ok.ensures.0 (c.in-Err-read_body.ensures n)
-
-pub returns-in-Err-read_body-clause-planes : goal.returns-in-Err-read_body-clause-planes
-unfolding ldt
-returns-in-Err-read_body-clause-planes c = never_want (lines_of c.args.bytes.now) c.args.lamp_set c.in-Err-read_body.fault (λ n. rw c.in-Ok.ensures.0 (c.in-Err-read_body.ensures n))
-
-pub returns-clause-table : goal.returns-clause-table
-unfolding ldt
-returns-clause-table c = rw c.in-Ok.ensures.0 c.in-Ok-read_body.ensures
+returns-in_err-table-clause-planes c =
+    let p = err_from_is_err_and c.from_residual-in_err-table.result c.from_residual-in_err-table.ensures.1 in
+    rw (p.1, p.2) (never_want (lines_of c.args.bytes.now) c.args.lamp_set c.in_err-table.field-0.0 (λ n. rw c.in_ok-head.ensures.0 (c.in_err-table.ensures n)))

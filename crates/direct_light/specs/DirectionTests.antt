@@ -1,0 +1,70 @@
+-- The step from a lamp's point to a place, and the intensity of a table there, computed.
+use Rattle.std.specs.Prelude.{◌≡◌, ℕ, Bool, ◌&&◌, true, pos, negsuc, [], ◌∷◌, refl}
+use Rattle.fx_base.specs.Fraction.{Fraction, at_most, ratio, whole, half_power, ◌+ᶠ◌, ◌-ᶠ◌}
+use Rattle.fx_base.specs.Interval.{Interval, exact}
+use Rattle.room_layout.specs.Place.{Place}
+use Rattle.room_layout.specs.declared.room.Lamp.{Lamp}
+use Rattle.room_layout.specs.declared.room.Shine.TheVariants.{File}
+use Rattle.angle_bracket.specs.DirectionTests.{all_directions}
+use Rattle.photo_table.specs.Table.{Table}
+use Rattle.photo_table.specs.Tests.{computed}
+use Rattle.direct_light.specs.Directions.{step_from, seen, loose_seen}
+
+-- whatever the intensities are made of
+unfoldable of_seen : Unit {0}
+unfolding all_directions computed half_power ◌-ᶠ◌ step_from
+of_seen = tt
+
+abbrev point : Place
+point = record { x = 3000; y = 3000; z = 6000 }
+
+-- down to the floor, east and north of the point: gamma is counted from the way down, so z is below 0
+down_and_aside : step_from point (record { x = 4000; y = 3500; z = 0 }) ≡ record { x = pos 1000; y = pos 500; z = negsuc 5999 }
+unfolding step_from
+down_and_aside = refl
+
+-- up, west and south of it
+up_and_aside : step_from point (record { x = 2000; y = 2500; z = 7000 }) ≡ record { x = negsuc 999; y = negsuc 499; z = pos 1000 }
+unfolding step_from
+up_and_aside = refl
+
+-- ---- 300, 400, 500 and 600 cd straight down in the half-planes 0, 90, 180 and 270, and 0 at gamma 90 in each
+
+abbrev table : Table
+unfolding computed
+table = record {
+  planes = 0 ∷ 90000000 ∷ 180000000 ∷ 270000000 ∷ [];
+  gammas = 0 ∷ 90000000 ∷ [];
+  values = exact (whole 300) ∷ exact (whole 0) ∷ exact (whole 400) ∷ exact (whole 0) ∷ exact (whole 500) ∷ exact (whole 0) ∷ exact (whole 600) ∷ exact (whole 0) ∷ [];
+}
+
+-- a lamp that is turned by a quarter
+abbrev lamp : Lamp
+lamp = record { at = record { x = 1500; y = 1500; z = 3000 }; shine = File 0; turn = 90; maintenance = 1000; size_x = 0; size_y = 0; split_x = 1; split_y = 1 }
+
+abbrev is : Fraction → Fraction → Bool
+is a b = at_most a b && at_most b a
+
+abbrev below : Place
+below = record { x = 3000; y = 3000; z = 0 }
+
+-- straight down no turn counts
+straight_down : (is (seen 0 table lamp point below).lo (whole 300) && is (seen 0 table lamp point below).hi (whole 300)) ≡ true
+unfolding of_seen
+straight_down = refl
+
+-- to the east of a lamp that is turned by a quarter, the half-plane is that of 270 degrees: at gamma 45, the upper end of gamma at
+-- this depth, it has a half of 600
+east : (is (seen 0 table lamp point (record { x = 4000; y = 3000; z = 5000 })).lo (whole 300)) ≡ true
+unfolding of_seen
+east = refl
+
+-- the loose form goes 1/4000 degree further in gamma, over which 300 / 90 cd a degree are lost, and to both sides of C 0, of which the
+-- side of 270 degrees has 300 / 90 cd a degree more; and then 2^-30 cd
+loose_below : is (loose_seen 0 table lamp point below).lo (ratio 300 1 -ᶠ ratio 300 360000 -ᶠ half_power 30) ≡ true
+unfolding of_seen
+loose_below = refl
+
+loose_above : is (loose_seen 0 table lamp point below).hi (ratio 300 1 +ᶠ ratio 300 360000 +ᶠ half_power 30) ≡ true
+unfolding of_seen
+loose_above = refl

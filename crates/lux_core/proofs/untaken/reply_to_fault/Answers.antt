@@ -1,0 +1,11 @@
+use Rattle.std.proofs.Common.{◌++◌, ◌∙◌, refl, sym, append_assoc}
+use Rattle.std.specs.Prelude.{codes}
+use Rattle.lux_core.proofs.untaken.reply_to_fault.Goals as goal
+
+pub returns-in_ok-text-in-Absent : goal.returns-in_ok-text-in-Absent
+returns-in_ok-text-in-Absent c =
+    rw c.in-Absent.is (refl, c.in_ok-text-in-Absent.ensures.ok ∙ sym (append_assoc (codes "refused " ++ c.args.name.now) (codes " Absent") (codes "\n")))
+
+pub returns-in_ok-text-in-TooLong : goal.returns-in_ok-text-in-TooLong
+returns-in_ok-text-in-TooLong c =
+    rw c.in-TooLong.is (refl, c.in_ok-text-in-TooLong.ensures.ok ∙ sym (append_assoc (codes "refused " ++ c.args.name.now) (codes " TooLong") (codes "\n")))
