@@ -1,12 +1,10 @@
 -- The share of one point of a lamp as the program finds it.
-use Rattle.std.proofs.Common.{ℕ, ◌+◌, ◌*◌, ◌<◌, ◌≤◌, ◌≡◌, pos, ◌≤ℤ◌, Bool, true, false, List, length, arith, refl, sym, ◌∙◌}
+use Rattle.std.proofs.Common.{ℕ, ◌+◌, ◌*◌, ◌<◌, ◌≤◌, ◌≡◌, pos, ◌≤ℤ◌, Bool, false, List, length, arith, inl, inr, sym, ◌∙◌}
 use Rattle.std.proofs.lemmas.Int.{ints}
 use Rattle.fx_base.specs.Ends.{Ends}
-use Rattle.fx_base.specs.Fraction.{Fraction, ◌≤ᶠ◌, ◌+ᶠ◌, ◌*ᶠ◌, half_power, ratio, whole}
-use Rattle.fx_base.specs.Interval.{Interval, LiesIn, Meets, exact, outward}
+use Rattle.fx_base.specs.Fraction.{half_power, whole}
+use Rattle.fx_base.specs.Interval.{LiesIn, Meets, exact, outward}
 use Rattle.fx_base.specs.Units.{natural, of_span, ticks}
-use Rattle.fx_base.proofs.Order.{le_trans_f, sub_le_f, zero_le_f}
-use Rattle.fx_base.proofs.Sums.{no_ticks}
 use Rattle.room_layout.specs.Accepted.{IsShine}
 use Rattle.room_layout.specs.Place.{Place, in_front}
 use Rattle.room_layout.specs.declared.geometry.Face.{Face}
@@ -20,6 +18,8 @@ use Rattle.photo_table.proofs.Exactly.{rounded_stands}
 use Rattle.direct_light.specs.Directions.{loose_seen, seen}
 use Rattle.direct_light.specs.Lamps.{part_count}
 use Rattle.direct_light.specs.Shares.{intensity, loose_intensity, loosened, share_of, table_at}
+use Rattle.direct_light.specs.Ways.{IsDark}
+use Rattle.direct_light.proofs.Shown.{dark_meets, dark_near}
 use Rattle.scene_system.specs.Causes.{greatest_ticks}
 use Rattle.scene_system.specs.Positions.{IsShare}
 use Rattle.scene_system.specs.Tables.{AreKept}
@@ -63,41 +63,20 @@ even_share photos l q p face clear candela d e meets near low most = record {
 
 -- ---- a point that gives nothing
 
-share_behind : (n : ℕ) (i : Interval) (l : Lamp) (q p : Place) (face : Face) (clear : Bool) → in_front face p q ≡ 0 → share_of n i l q p face clear ≡ exact (whole 0)
-unfolding share_of
-share_behind n i l q p face true h = rw h refl
-share_behind n i l q p face false h = refl
-
-share_hidden : (n : ℕ) (i : Interval) (l : Lamp) (q p : Place) (face : Face) (clear : Bool) → clear ≡ false → share_of n i l q p face clear ≡ exact (whole 0)
-unfolding share_of
-share_hidden n i l q p face clear e = rw e refl
-
-nothing_times : (a : Fraction) → (whole 0 *ᶠ a) ≤ᶠ whole 0
-unfolding whole ◌*ᶠ◌
-nothing_times a = record { cross = omega arith }
-
-loose_nothing : LiesIn (exact (ticks 0)) (loosened (exact (whole 0)))
-unfolding loosened
-loose_nothing = record {
-  lower = sub_le_f (whole 0 *ᶠ ratio 16777215 16777216) (half_power 20) (le_trans_f (nothing_times (ratio 16777215 16777216)) (zero_le_f (ticks 0 +ᶠ half_power 20)));
-  upper = le_trans_f (no_ticks.0) (zero_le_f (whole 0 *ᶠ ratio 16777217 16777216 +ᶠ half_power 20));
-}
-
--- a span of no ticks, where every share of the point is nothing
-dark : (photos : List Table) (l : Lamp) (q p : Place) (face : Face) (clear : Bool) (d : Ends) → ((n : ℕ) (i : Interval) → share_of n i l q p face clear ≡ exact (whole 0))
-    → d.lo ≡ pos 0 → d.hi ≡ pos 0 → IsShare photos l q p face clear d
+-- a span of no ticks, where the plane has nothing of the point
+dark : (photos : List Table) (l : Lamp) (q p : Place) (face : Face) (clear : Bool) (d : Ends) → IsDark q p face clear → d.lo ≡ pos 0 → d.hi ≡ pos 0
+    → IsShare photos l q p face clear d
 dark photos l q p face clear d none low high = record {
-  meets = λ tables are n. rw (none n (intensity n tables l q p), low, high) (record { above = no_ticks.0; below = no_ticks.1 });
-  near = λ tables are n. rw (none n (loose_intensity n tables l q p), low, high) loose_nothing;
+  meets = λ tables are n. dark_meets n (intensity n tables l q p) d l q p face clear none low high;
+  near = λ tables are n. dark_near n (loose_intensity n tables l q p) d l q p face clear none low high;
   low = rw low (omega (arith, ints));
   most = rw high (omega arith);
 }
 
 pub behind_share : (photos : List Table) (l : Lamp) (q p h t : Place) (face : Face) (clear : Bool) (above : ℕ) (d : Ends) → h ≡ p → t ≡ q → above ≡ in_front face h t → above ≡ 0
     → d.lo ≡ pos 0 → d.hi ≡ pos 0 → IsShare photos l q p face clear d
-behind_share photos l q p h t face clear above d a b f none low high =
-    dark photos l q p face clear d (λ n i. share_behind n i l q p face clear (rw (a, b) at (sym f ∙ none))) low high
+behind_share photos l q p h t face clear above d a b f none low high = dark photos l q p face clear d (inr (rw (a, b) at (sym f ∙ none))) low high
 
 pub hidden_share : (photos : List Table) (l : Lamp) (q p : Place) (face : Face) (clear : Bool) (d : Ends) → clear ≡ false → d.lo ≡ pos 0 → d.hi ≡ pos 0
     → IsShare photos l q p face clear d
-hidden_share photos l q p face clear d hidden low high = dark photos l q p face clear d (λ n i. share_hidden n i l q p face clear hidden) low high
+hidden_share photos l q p face clear d hidden low high = dark photos l q p face clear d (inl hidden) low high
