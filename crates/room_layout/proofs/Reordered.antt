@@ -1,7 +1,6 @@
 -- The order in which tables have their keys doesn't matter: data that is the same but for the order of keys is read alike.
 use Rattle.std.proofs.Common.{◌≡◌, ℕ, ◌+◌, nat_le, Bool, true, false, cond, List, [], ◌∷◌, length, Option, Some, None, is_some, Result, Ok, Err, Ordering, Less, Equal, Greater, codes, nat_cmp, is_eq, refl, ap, subst, sym, ◌∙◌}
-use Rattle.std.specs.List.{AllZip, list_all, list_any}
-use Rattle.std.specs.Option.{option_map_or}
+use Rattle.std.specs.List.{AllZip, list_all}
 use Rattle.std.specs.Cmp.{tied_itself}
 use Rattle.std.specs.Cmp.Lexicographic.{slice_cmp}
 use Rattle.std.specs.Ordering.{match_ordering}
@@ -18,7 +17,7 @@ use Rattle.room_layout.specs.declared.geometry.Size.{Size}
 use Rattle.room_layout.specs.declared.room.FileUse.{FileUse}
 use Rattle.room_layout.specs.Checks.{◌>>=◌, demand, each, spot, required, optional, where_given, ranged, kind, number, is_integer, items_list, array, all_numbers, numbers, is_name, name_text, is_among, has_only, table_with, elements}
 use Rattle.room_layout.specs.Layout.{room_keys, version_one, version_of, shell_of, box_keys, block_of, blocks_from, blocks_of, lamp_keys, source_of, fitting_of, lamp_of, lamps_from, lamps_of, task_keys, task_of, limits_keys, limits_in, limits_of, document_keys, room_of_document, built_room_of_document}
-use Rattle.room_layout.specs.Served.{unserved_of_document, unserved_of_lamp, has_any, has_any_in, has_any_in_each, is_unserved}
+use Rattle.room_layout.specs.Served.{is_unserved}
 use Rattle.room_layout.specs.Laws.{IsReordered, same, arrays, tables, IsReorderedIfGiven, neither, both, AreItemsReordered, none, next, AreReordered, IgnoresOrder}
 
 -- ---- unknown keys
@@ -337,33 +336,11 @@ room_of_document-same a b r =
     (λ task. bind-each _ _ _ _ (limits_of-same a b r)
     (λ limits. refl)))))))
 
--- ---- keys that aren't served yet
-
-has_any-same : (keys : List (List ℕ)) (a b : Members) → AreReordered a b → has_any keys a ≡ has_any keys b
-has_any-same [] a b r = refl
-has_any-same (k ∷ keys) a b r = rw (given_same (r k), has_any-same keys a b r)
-
-has_any_in-same : (keys : List (List ℕ)) {d e : Data} → IsReordered d e → has_any_in keys d ≡ has_any_in keys e
-has_any_in-same keys same = refl
-has_any_in-same keys (arrays items) = refl
-has_any_in-same keys (tables {a} {b} at) = has_any-same keys a b at
-
-some_has-same : (keys : List (List ℕ)) {a b : Items} → AreItemsReordered a b → list_any (has_any_in keys) (items_list a) ≡ list_any (has_any_in keys) (items_list b)
-some_has-same keys none = refl
-some_has-same keys (next r more) = rw (has_any_in-same keys r, some_has-same keys more)
-
-has_any_in_each-same : (keys : List (List ℕ)) {d e : Data} → IsReordered d e → has_any_in_each keys d ≡ has_any_in_each keys e
-has_any_in_each-same keys same = refl
-has_any_in_each-same keys (arrays items) = some_has-same keys items
-has_any_in_each-same keys (tables at) = refl
-
-if_given-same : (test : Data → Bool) → ((d e : Data) → IsReordered d e → test d ≡ test e) → {o p : Option Data} → IsReorderedIfGiven o p → option_map_or test o false ≡ option_map_or test p false
-if_given-same test steady neither = refl
-if_given-same test steady (both {d} {e} r) = steady d e r
+-- ---- the key that isn't served yet
 
 is_unserved-same : (a b : Members) → AreReordered a b → is_unserved a ≡ is_unserved b
 unfolding is_unserved
-is_unserved-same a b r = rw (has_any-same unserved_of_document a b r, if_given-same (has_any_in_each unserved_of_lamp) (λ d e. has_any_in_each-same unserved_of_lamp) (r (codes "lamp")))
+is_unserved-same a b r = given_same (r (codes "limits"))
 
 built_room_of_document-same : (a b : Members) → AreReordered a b → built_room_of_document a ≡ built_room_of_document b
 unfolding built_room_of_document

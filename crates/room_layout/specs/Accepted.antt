@@ -1,5 +1,5 @@
 -- The rooms that the layout accepts, and those of them that have only the keys that are served.
-use Rattle.std.specs.Prelude.{◌≡◌, ℕ, ◌+◌, ◌*◌, ◌<◌, ◌≤◌, true, [], length, All, None, IfSome}
+use Rattle.std.specs.Prelude.{◌≡◌, ℕ, ◌+◌, ◌*◌, ◌<◌, ◌≤◌, true, length, All, None, IfSome}
 use Rattle.room_layout.specs.Checks.{is_name}
 use Rattle.room_layout.specs.declared.geometry.Size.{Size}
 use Rattle.room_layout.specs.declared.room.Reflects.{Reflects}
@@ -94,17 +94,9 @@ pub record IsAccepted (r : Room) : Type 0 where
 
 -- ---- rooms that have only the keys that are served
 
-pub record IsPlainLamp (l : Lamp) : Type 0 where
-  pub shine : (candela : ℕ) × (l.shine ≡ Even candela)
-  pub turn : l.turn ≡ 0
-  pub maintenance : l.maintenance ≡ 1000
-  pub size_x : l.size_x ≡ 0
-  pub size_y : l.size_y ≡ 0
-  pub split_x : l.split_x ≡ 1
-  pub split_y : l.split_y ≡ 1
+abbrev pub no_limits : Limits
+no_limits = record { average = None; uniformity = None }
 
--- a room with what the keys that aren't served yet have where they aren't given
+-- a room that asks for no limits, which aren't served yet
 pub record IsPlain (r : Room) : Type 0 where
-  pub files : r.files ≡ []
-  pub limits : r.limits ≡ record { average = None; uniformity = None }
-  pub each_lamp : All IsPlainLamp r.lamps
+  pub limits : r.limits ≡ no_limits

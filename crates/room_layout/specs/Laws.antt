@@ -21,7 +21,7 @@ GivesFiles = (document : Members) (r : Room) → room_of_document document ≡ O
 abbrev pub ServesPart : Type 0
 ServesPart = (bytes : List ℕ) (r : Room) → built_room_of bytes ≡ Ok r → room_of bytes ≡ Ok r
 
--- a room that the part gives has what the other keys have where they aren't given
+-- a room that the part gives asks for no limits
 abbrev pub GivesPlain : Type 0
 GivesPlain = (bytes : List ℕ) (r : Room) → built_room_of bytes ≡ Ok r → IsPlain r
 

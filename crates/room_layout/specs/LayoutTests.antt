@@ -146,13 +146,12 @@ many_points = refl
 
 -- ---- every key
 
-abbrev whole_text : List ℕ
-whole_text =
+abbrev served_text : List ℕ
+served_text =
     line (codes "version = 1")
     (line (codes "room = { size = [6000, 5000, 3000], reflect = [201, 702, 503, 504, 505, 506], patch = 650 }")
     (line (codes "box = [{ lo = [1, 2, 3], hi = [1004, 505, 706], reflect = 307 }]")
     (line (codes "task = { from = [11, 12], to = [5993, 4994], height = 715, points = [9, 7] }")
-    (line (codes "limits = { average_millilux = 500001, uniformity_permille = 402 }")
     (line (codes "[[lamp]]")
     (line (codes "at = [1001, 1002, 2503]")
     (line (codes "file = 'a.ldt'")
@@ -167,14 +166,17 @@ whole_text =
     (line (codes "[[lamp]]")
     (line (codes "at = [6000, 5000, 3000]")
     (line (codes "file = 'a.ldt'")
-    (codes "set = 2")))))))))))))))))))
+    (codes "set = 2"))))))))))))))))))
+
+abbrev whole_text : List ℕ
+whole_text = line (codes "limits = { average_millilux = 500001, uniformity_permille = 402 }") served_text
 
 abbrev plain_lamp : ℕ → ℕ → ℕ → ℕ → Lamp
 plain_lamp x y z index = record { at = record { x = x; y = y; z = z }; shine = File index; turn = 0; maintenance = 1000; size_x = 0; size_y = 0; split_x = 1; split_y = 1 }
 
 -- two pairs of file and set, of which the first and the third lamp have the same
-abbrev whole_room : Room
-whole_room = record {
+abbrev served_room : Room
+served_room = record {
   size = record { x = 6000; y = 5000; z = 3000 };
   reflect = record { floor = 201; ceiling = 702; x0 = 503; x1 = 504; y0 = 505; y1 = 506 };
   patch = 650;
@@ -184,8 +186,15 @@ whole_room = record {
       ∷ plain_lamp 0 0 0 1 ∷ plain_lamp 6000 5000 3000 0 ∷ [];
   files = record { name = codes "a.ldt"; set = 2 } ∷ record { name = codes "a.ldt"; set = 1 } ∷ [];
   task = record { from_x = 11; from_y = 12; to_x = 5993; to_y = 4994; height = 715; nx = 9; ny = 7 };
-  limits = record { average = Some 500001; uniformity = Some 402 };
+  limits = record { average = None; uniformity = None };
 }
+
+served_read : built_room_of served_text ≡ Ok served_room
+unfolding is_utf8 chars toml_on_literals built_room_of built_room_of_document is_unserved document_of room_of_document version_of shell_of blocks_of block_of lamps_of lamp_of source_of fitting_of shine_of checked_lamp task_of limits_of
+served_read = refl
+
+abbrev whole_room : Room
+whole_room = record served_room { limits = record { average = Some 500001; uniformity = Some 402 } }
 
 whole_read : room_of whole_text ≡ Ok whole_room
 unfolding is_utf8 chars toml_on_literals room_of document_of room_of_document version_of shell_of blocks_of block_of lamps_of lamp_of source_of fitting_of shine_of checked_lamp task_of limits_in limits_of

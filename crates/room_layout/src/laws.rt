@@ -17,7 +17,7 @@ pub fn serves_part()
     ensures { ServesPart }
 {}
 
-/// A room that the served part gives has what the other keys have where they aren't given.
+/// A room that the served part gives asks for no limits.
 pub fn gives_plain()
     ensures { GivesPlain }
 {}

@@ -32,7 +32,8 @@ size = [6000, 6000, 3000] | size = [499, 6000, 3000] | 6 Range room.size
 at = [3000, 3000, 3000] | at = [6001, 0, 0] | 7 Outside lamp 0
 points = [1, 1] | points = [33, 32] | 8 TooMany task.points
 points = [1, 1] | points = [32, 32] | accepted
-candela = 5000 | candela = 5000;turn = 0 | 9 NotBuilt
+candela = 5000 | candela = 5000;turn = 0 | accepted
+candela = 5000 | file = 'a.ldt' | accepted
 points = [1, 1] | points = [1, 1];[limits] | 9 NotBuilt";
 
 /// Reflecting surfaces, a longest edge of a patch and two boxes.
@@ -112,18 +113,19 @@ fn edited(alloc: Global, edit: &str) -> Result<String, AllocError> {
     Ok(text)
 }
 
-/// A layout whose boxes or lamps are so many of the same.
+/// A layout without limits, whose boxes or lamps are so many of the same.
 fn repeated(alloc: Global, key: &str, element: &str, count: u32) -> Result<String, AllocError> {
     let mut line = format!(in alloc; "{key} = [")?;
     for _i in 0..count {
         line.push_str(element)?;
         line.push_str(", ")?;
     }
-    line.push_str("]")?;
+    line.push_str("]; limits")?;
     edited(alloc, line.as_str())
 }
 
-/// A layout with lamps that use so many pairs of file and set, each of them `times` times. The pairs differ by name or by set.
+/// A layout without limits, with lamps that use so many pairs of file and set, each of them `times` times. The pairs differ by name or by
+/// set.
 fn with_files(alloc: Global, pairs: u32, by_name: bool, times: u32) -> Result<String, AllocError> {
     let mut line = String::from_str(alloc, "lamp = [")?;
     for i in 0..pairs {
@@ -139,7 +141,7 @@ fn with_files(alloc: Global, pairs: u32, by_name: bool, times: u32) -> Result<St
             line.push_str(lamp.as_str())?;
         }
     }
-    line.push_str("]")?;
+    line.push_str("]; limits")?;
     edited(alloc, line.as_str())
 }
 
@@ -210,14 +212,60 @@ fn each_key_is_refused_at_each_of_its_faults(rt: HostRuntime) -> Result<(), Fail
 }
 
 #[test]
+fn each_key_of_a_lamp_is_read(rt: HostRuntime) -> Result<(), Fail> {
+    let alloc = rt.alloc();
+    let text = edited(
+        alloc,
+        "lamp = [{ at = [1001, 1002, 2503], file = 'a.ldt', set = 2, turn = 45, maintenance = 806, size = [607, 608], split = [2, 3] }]; limits",
+    )?;
+    let room = read_room(alloc, text.as_bytes())?;
+    let lamp = room.lamps.as_slice().first().ok_or("a lamp")?;
+    assert_eq!(rt; (lamp.at.x, lamp.at.y, lamp.at.z), (1001, 1002, 2503));
+    assert_eq!(rt; lamp.shine, Shine::File(0));
+    assert_eq!(rt; (lamp.turn, lamp.maintenance), (45, 806));
+    assert_eq!(rt; (lamp.size_x, lamp.size_y), (607, 608));
+    assert_eq!(rt; (lamp.split_x, lamp.split_y), (2, 3));
+    let used = room.files.as_slice().first().ok_or("a file")?;
+    assert_eq!(rt; (used.name.text(), used.set), ("a.ldt", 2));
+    Ok(())
+}
+
+#[test]
+fn a_pair_of_file_and_set_is_there_once_in_order_of_first_use(rt: HostRuntime) -> Result<(), Fail> {
+    let alloc = rt.alloc();
+    let text = edited(
+        alloc,
+        "lamp = [{ at = [0, 0, 0], file = 'b', set = 2 }, { at = [0, 0, 0], candela = 7 }, { at = [0, 0, 0], file = 'b' }, { at = [0, 0, 0], file = 'a', set = 2 }, { at = [0, 0, 0], file = 'b', set = 1 }]; limits",
+    )?;
+    let room = read_room(alloc, text.as_bytes())?;
+    assert_eq!(rt; room.lamps.len(), 5);
+    for (i, expected) in [
+        (0, Shine::File(0)),
+        (1, Shine::Even(7)),
+        (2, Shine::File(1)),
+        (3, Shine::File(2)),
+        (4, Shine::File(1)),
+    ] {
+        let lamp = room.lamps.as_slice().get(i).ok_or("a lamp")?;
+        assert_eq!(rt; lamp.shine, expected, "lamp {i}");
+    }
+    assert_eq!(rt; room.files.len(), 3);
+    for (k, name, set) in [(0, "b", 2), (1, "b", 1), (2, "a", 2)] {
+        let used = room.files.as_slice().get(k).ok_or("a file")?;
+        assert_eq!(rt; (used.name.text(), used.set), (name, set), "file {k}");
+    }
+    Ok(())
+}
+
+#[test]
 fn one_element_too_many_is_refused_before_any_of_them(rt: HostRuntime) -> Result<(), Fail> {
     let alloc = rt.alloc();
     let block = "{ lo = [0, 0, 0], hi = [1, 1, 1] }";
     let lamp = "{ at = [0, 0, 0], candela = 1 }";
     for (key, element, count, expected) in [
-        ("box", block, 64, "9 NotBuilt"),
+        ("box", block, 64, "accepted"),
         ("box", "1", 65, "8 TooMany box 0"),
-        ("lamp", lamp, 256, "9 NotBuilt"),
+        ("lamp", lamp, 256, "accepted"),
         ("lamp", "1", 257, "8 TooMany lamp 0"),
     ] {
         let text = repeated(alloc, key, element, count)?;
@@ -232,10 +280,10 @@ fn the_seventeenth_pair_of_file_and_set_is_refused(rt: HostRuntime) -> Result<()
     let alloc = rt.alloc();
     // pair k is first used by lamp k * times
     for (pairs, by_name, times, expected) in [
-        (16, true, 16, "9 NotBuilt"),
+        (16, true, 16, "accepted"),
         (17, true, 1, "8 TooMany lamp.file 16"),
         (17, true, 2, "8 TooMany lamp.file 32"),
-        (16, false, 2, "9 NotBuilt"),
+        (16, false, 2, "accepted"),
         (17, false, 2, "8 TooMany lamp.file 32"),
     ] {
         let text = with_files(alloc, pairs, by_name, times)?;

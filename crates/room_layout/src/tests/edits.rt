@@ -34,29 +34,29 @@ room = { size = [499, 5000, 3000] } > 6 Range room.size
 room = { size = [50001, 5000, 3000] } > 6 Range room.size
 room = { size = [6000, 5000, 499] } > 6 Range room.size
 room = { size = [-6000, 5000, 3000] } > 6 Range room.size
-room = { size = [500, 500, 500] }; box; lamp; task = { from = [0, 0], to = [500, 500], height = 500, points = [1, 1] } > 9 NotBuilt
-room = { size = [50000, 50000, 50000] } > 9 NotBuilt
+room = { size = [500, 500, 500] }; box; lamp; task = { from = [0, 0], to = [500, 500], height = 500, points = [1, 1] }; limits > accepted
+room = { size = [50000, 50000, 50000] }; limits > accepted
 room = { size = [499, 5000, 3000], reflect = 1 } > 6 Range room.size
 room = { size = [6000, 5000, 3000], reflect = 1 } > 5 Kind room.reflect
 room = { size = [6000, 5000, 3000], reflect = [0, 0, 0, 0, 0] } > 5 Kind room.reflect
 room = { size = [6000, 5000, 3000], reflect = [0, 0, 0, 0, 0, true] } > 5 Kind room.reflect
 room = { size = [6000, 5000, 3000], reflect = [0, 0, 0, 0, 0, 951] } > 6 Range room.reflect
 room = { size = [6000, 5000, 3000], reflect = [-1, 0, 0, 0, 0, 0] } > 6 Range room.reflect
-room = { size = [6000, 5000, 3000], reflect = [950, 0, 950, 0, 950, 0] } > 9 NotBuilt
+room = { size = [6000, 5000, 3000], reflect = [950, 0, 950, 0, 950, 0] }; limits > accepted
 room = { size = [6000, 5000, 3000], reflect = [0, 0, 0, 0, 0, 951], patch = 'x' } > 6 Range room.reflect
 room = { size = [6000, 5000, 3000], patch = '50' } > 5 Kind room.patch
 room = { size = [6000, 5000, 3000], patch = [50] } > 5 Kind room.patch
 room = { size = [6000, 5000, 3000], patch = 49 } > 6 Range room.patch
 room = { size = [6000, 5000, 3000], patch = 50001 } > 6 Range room.patch
-room = { size = [6000, 5000, 3000], patch = 50 } > 9 NotBuilt
-room = { size = [6000, 5000, 3000], patch = 50000 } > 9 NotBuilt
+room = { size = [6000, 5000, 3000], patch = 50 }; limits > accepted
+room = { size = [6000, 5000, 3000], patch = 50000 }; limits > accepted
 room = { size = [6000, 5000, 3000], patch = 49, reflect = 1 } > 5 Kind room.reflect
 room = { size = [6000, 5000, 3000], patch = 49, colour = 1 } > 4 Unknown room
 box = 1 > 5 Kind box 0
 box = {} > 5 Kind box 0
 box = [1] > 5 Kind box 0
 box = [{ lo = [0, 0, 0], hi = [1, 1, 1] }, 1] > 5 Kind box 1
-box = [] > 9 NotBuilt
+box = []; limits > accepted
 box = [{ colour = 1 }] > 4 Unknown box 0
 box = [{ lo = [0, 0, 0], hi = [1, 1, 1] }, { colour = 1 }] > 4 Unknown box 1
 box = [{ hi = [1, 1, 1] }] > 3 Missing box.lo 0
@@ -73,22 +73,22 @@ box = [{ lo = [0, 0, 0], hi = [1, 1, -1] }] > 6 Range box.hi 0
 box = [{ lo = [0, 0, 0], hi = [1, 1, 1], reflect = [] }] > 5 Kind box.reflect 0
 box = [{ lo = [0, 0, 0], hi = [1, 1, 1], reflect = -1 }] > 6 Range box.reflect 0
 box = [{ lo = [0, 0, 0], hi = [1, 1, 1], reflect = 951 }] > 6 Range box.reflect 0
-box = [{ lo = [0, 0, 0], hi = [1, 1, 1], reflect = 950 }] > 9 NotBuilt
+box = [{ lo = [0, 0, 0], hi = [1, 1, 1], reflect = 950 }]; limits > accepted
 box = [{ lo = [5, 5, 5], hi = [6, 5, 6] }] > 6 Range box.hi 0
 box = [{ lo = [5, 5, 5], hi = [6, 5, 6], reflect = 951 }] > 6 Range box.reflect 0
 box = [{ lo = [5, 5, 5], hi = [6, 4, 9000] }] > 6 Range box.hi 0
 box = [{ lo = [0, 0, 0], hi = [6001, 5000, 3000] }] > 7 Outside box 0
 box = [{ lo = [0, 0, 0], hi = [6000, 5001, 3000] }] > 7 Outside box 0
 box = [{ lo = [0, 0, 0], hi = [1, 1, 1] }, { lo = [0, 0, 0], hi = [6000, 5000, 3001] }] > 7 Outside box 1
-box = [{ lo = [0, 0, 0], hi = [6000, 5000, 3000] }] > 9 NotBuilt
+box = [{ lo = [0, 0, 0], hi = [6000, 5000, 3000] }]; limits > accepted
 box = [{ lo = [5, 5, 5], hi = [6, 5, 6] }, 1]; lamp = 1 > 6 Range box.hi 0
 box = 1; lamp = 1 > 5 Kind box 0
 lamp = 1 > 5 Kind lamp 0
 lamp = {} > 5 Kind lamp 0
 lamp = [1] > 5 Kind lamp 0
 lamp = [{ at = [0, 0, 0], candela = 1 }, []] > 5 Kind lamp 1
-lamp = [] > 9 NotBuilt
-lamp > 9 NotBuilt
+lamp = []; limits > accepted
+lamp; limits > accepted
 lamp = [{ colour = 1 }] > 4 Unknown lamp 0
 lamp = [{ at = [0, 0, 0], candela = 1 }, { colour = 1, at = 1 }] > 4 Unknown lamp 1
 lamp = [{ candela = 1 }] > 3 Missing lamp.at 0
@@ -100,40 +100,53 @@ lamp = [{ at = [50000, 0, 0] }] > 3 Missing lamp.candela 0
 lamp = [{ at = [0, 0, 0], candela = 'x' }] > 5 Kind lamp.candela 0
 lamp = [{ at = [0, 0, 0], candela = 10000001 }] > 6 Range lamp.candela 0
 lamp = [{ at = [0, 0, 0], candela = -1 }] > 6 Range lamp.candela 0
-lamp = [{ at = [0, 0, 0], candela = 10000000 }] > 9 NotBuilt
-lamp = [{ at = [0, 0, 0], candela = 0 }] > 9 NotBuilt
+lamp = [{ at = [0, 0, 0], candela = 10000000 }]; limits > accepted
+lamp = [{ at = [0, 0, 0], candela = 0 }]; limits > accepted
 lamp = [{ at = [0, 0, 0], file = 1 }] > 5 Kind lamp.file 0
 lamp = [{ at = [0, 0, 0], file = '' }] > 6 Range lamp.file 0
 lamp = [{ at = [0, 0, 0], file = \"a\\tb\" }] > 6 Range lamp.file 0
 lamp = [{ at = [0, 0, 0], file = \"a\\u007Fb\" }] > 6 Range lamp.file 0
-lamp = [{ at = [0, 0, 0], file = 'aaaaaaaaaaaaaaaaaaaaaaaaaaaaaaaaaaaaaaaaaaaaaaaaaaaaaaaaaaaaaaaaaaaaaaaaaaaaaaaaaaaaaaaaaaaaaaaaaaaaaaaaaaaaaaaaaaaaaaaaaaaaaaaaaaaaaaaaaaaaaaaaaaaaaaaaaaaaaaaaaaaaaaaaaaaaaaaaaaaaaaaaaaaaaaaaaaaaaaaaaaaaaaaaaaaaaaaaaaaaaaaaaaaaaaaaaaaaaaaaaaaaaaaaaaaaaaa' }] > 9 NotBuilt
+lamp = [{ at = [0, 0, 0], file = 'aaaaaaaaaaaaaaaaaaaaaaaaaaaaaaaaaaaaaaaaaaaaaaaaaaaaaaaaaaaaaaaaaaaaaaaaaaaaaaaaaaaaaaaaaaaaaaaaaaaaaaaaaaaaaaaaaaaaaaaaaaaaaaaaaaaaaaaaaaaaaaaaaaaaaaaaaaaaaaaaaaaaaaaaaaaaaaaaaaaaaaaaaaaaaaaaaaaaaaaaaaaaaaaaaaaaaaaaaaaaaaaaaaaaaaaaaaaaaaaaaaaaaaaaaaaaaaa' }]; limits > accepted
 lamp = [{ at = [0, 0, 0], file = 'aaaaaaaaaaaaaaaaaaaaaaaaaaaaaaaaaaaaaaaaaaaaaaaaaaaaaaaaaaaaaaaaaaaaaaaaaaaaaaaaaaaaaaaaaaaaaaaaaaaaaaaaaaaaaaaaaaaaaaaaaaaaaaaaaaaaaaaaaaaaaaaaaaaaaaaaaaaaaaaaaaaaaaaaaaaaaaaaaaaaaaaaaaaaaaaaaaaaaaaaaaaaaaaaaaaaaaaaaaaaaaaaaaaaaaaaaaaaaaaaaaaaaaaaaaaaaaaa' }] > 6 Range lamp.file 0
-lamp = [{ at = [0, 0, 0], file = ' ~' }] > 9 NotBuilt
+lamp = [{ at = [0, 0, 0], file = ' ~' }]; limits > accepted
+lamp = [{ at = [0, 0, 0], file = 'äääääääääääääääääääääääääääääääääääääääääääääääääääääääääääääääääääääääääääääääääääääääääääääääääääääääääääääääääääääääääääääääa' }]; limits > accepted
+lamp = [{ at = [0, 0, 0], file = 'ääääääääääääääääääääääääääääääääääääääääääääääääääääääääääääääääääääääääääääääääääääääääääääääääääääääääääääääääääääääääääääääää' }] > 6 Range lamp.file 0
 lamp = [{ at = [0, 0, 0], candela = 1 }, { at = [1000, 1000, 1000], candela = 1, set = true }] > 5 Kind lamp.set 1
 lamp = [{ at = [1000, 1000, 1000], candela = 1, set = 0 }] > 6 Range lamp.set 0
 lamp = [{ at = [1000, 1000, 1000], candela = 1, set = 21 }] > 6 Range lamp.set 0
-lamp = [{ at = [1000, 1000, 1000], candela = 1, set = 1 }] > 9 NotBuilt
-lamp = [{ at = [0, 0, 0], file = 'a', set = 20 }] > 9 NotBuilt
+lamp = [{ at = [1000, 1000, 1000], candela = 1, set = 1 }]; limits > accepted
+lamp = [{ at = [0, 0, 0], file = 'a', set = 20 }]; limits > accepted
+lamp = [{ at = [0, 0, 0], file = 'a', set = 1 }]; limits > accepted
+lamp = [{ at = [0, 0, 0], file = 'a', set = 0 }] > 6 Range lamp.set 0
+lamp = [{ at = [0, 0, 0], file = 'a', set = 21 }] > 6 Range lamp.set 0
 lamp = [{ at = [0, 0, 0], set = 21 }] > 6 Range lamp.set 0
 lamp = [{ at = [1000, 1000, 1000], candela = 1, turn = [] }] > 5 Kind lamp.turn 0
 lamp = [{ at = [1000, 1000, 1000], candela = 1, turn = -1 }] > 6 Range lamp.turn 0
 lamp = [{ at = [0, 0, 0], candela = 1 }, { at = [1000, 1000, 1000], candela = 1, turn = 360 }] > 6 Range lamp.turn 1
-lamp = [{ at = [1000, 1000, 1000], candela = 1, turn = 359 }] > 9 NotBuilt
-lamp = [{ at = [1000, 1000, 1000], candela = 1, turn = 0 }] > 9 NotBuilt
+lamp = [{ at = [1000, 1000, 1000], candela = 1, turn = 359 }]; limits > accepted
+lamp = [{ at = [1000, 1000, 1000], candela = 1, turn = 0 }]; limits > accepted
 lamp = [{ at = [1000, 1000, 1000], candela = 1, maintenance = 1.0 }] > 5 Kind lamp.maintenance 0
 lamp = [{ at = [1000, 1000, 1000], candela = 1, maintenance = -1 }] > 6 Range lamp.maintenance 0
 lamp = [{ at = [1000, 1000, 1000], candela = 1, maintenance = 1001 }] > 6 Range lamp.maintenance 0
-lamp = [{ at = [1000, 1000, 1000], candela = 1, maintenance = 1000 }] > 9 NotBuilt
-lamp = [{ at = [1000, 1000, 1000], candela = 1, maintenance = 0 }] > 9 NotBuilt
+lamp = [{ at = [1000, 1000, 1000], candela = 1, maintenance = 1000 }]; limits > accepted
+lamp = [{ at = [1000, 1000, 1000], candela = 1, maintenance = 0 }]; limits > accepted
 lamp = [{ at = [1000, 1000, 1000], candela = 1, size = 1 }] > 5 Kind lamp.size 0
 lamp = [{ at = [1000, 1000, 1000], candela = 1, size = [1, 1, 1] }] > 5 Kind lamp.size 0
 lamp = [{ at = [1000, 1000, 1000], candela = 1, size = [5001, 0] }] > 6 Range lamp.size 0
 lamp = [{ at = [1000, 1000, 1000], candela = 1, size = [0, -1] }] > 6 Range lamp.size 0
-lamp = [{ at = [2500, 2500, 0], candela = 1, size = [5000, 5000] }] > 9 NotBuilt
+lamp = [{ at = [2500, 2500, 0], candela = 1, size = [5000, 5000] }]; limits > accepted
+lamp = [{ at = [3500, 2500, 0], file = 'a', size = [5000, 5000] }]; limits > accepted
+lamp = [{ at = [2499, 2500, 0], candela = 1, size = [5000, 5000] }] > 7 Outside lamp 0
+lamp = [{ at = [3501, 2500, 0], candela = 1, size = [5000, 5000] }] > 7 Outside lamp 0
+lamp = [{ at = [2500, 2500, 0], candela = 1, size = [5000, 5001] }] > 6 Range lamp.size 0
 lamp = [{ at = [1000, 1000, 1000], candela = 1, split = [1] }] > 5 Kind lamp.split 0
 lamp = [{ at = [1000, 1000, 1000], candela = 1, split = [0, 1] }] > 6 Range lamp.split 0
 lamp = [{ at = [1000, 1000, 1000], candela = 1, split = [1, 9] }] > 6 Range lamp.split 0
-lamp = [{ at = [1000, 1000, 1000], candela = 1, split = [8, 1] }] > 9 NotBuilt
+lamp = [{ at = [1000, 1000, 1000], candela = 1, split = [8, 1] }]; limits > accepted
+lamp = [{ at = [1000, 1000, 1000], candela = 1, split = [1, 8] }]; limits > accepted
+lamp = [{ at = [1000, 1000, 1000], file = 'a', split = [8, 8] }]; limits > accepted
+lamp = [{ at = [1000, 1000, 1000], candela = 1, split = [1, 0] }] > 6 Range lamp.split 0
+lamp = [{ at = [1000, 1000, 1000], candela = 1, split = [9, 1] }] > 6 Range lamp.split 0
 lamp = [{ at = [0, 0, 0] }] > 3 Missing lamp.candela 0
 lamp = [{ at = [9000, 0, 0] }] > 3 Missing lamp.candela 0
 lamp = [{ at = [0, 0, 0], candela = 1, file = 'a' }] > 5 Kind lamp.file 0
@@ -142,8 +155,8 @@ lamp = [{ at = [0, 0, 0], split = [0, 1] }] > 6 Range lamp.split 0
 lamp = [{ at = [6001, 0, 0], candela = 1 }] > 7 Outside lamp 0
 lamp = [{ at = [0, 5001, 0], candela = 1 }] > 7 Outside lamp 0
 lamp = [{ at = [0, 0, 0], candela = 1 }, { at = [0, 0, 3001], candela = 1 }] > 7 Outside lamp 1
-lamp = [{ at = [6000, 5000, 3000], candela = 1 }] > 9 NotBuilt
-lamp = [{ at = [100, 100, 0], candela = 1, size = [200, 200] }] > 9 NotBuilt
+lamp = [{ at = [6000, 5000, 3000], candela = 1 }]; limits > accepted
+lamp = [{ at = [100, 100, 0], candela = 1, size = [200, 200] }]; limits > accepted
 lamp = [{ at = [100, 100, 0], candela = 1, size = [201, 0] }] > 7 Outside lamp 0
 lamp = [{ at = [100, 100, 0], candela = 1, size = [0, 201] }] > 7 Outside lamp 0
 lamp = [{ at = [5900, 0, 0], candela = 1, size = [201, 0] }] > 7 Outside lamp 0
@@ -170,16 +183,16 @@ task = { from = [0, 0], to = [1, 1], height = 0 } > 3 Missing task.points
 task = { from = [0, 0], to = [1, 1], height = 0, points = 1 } > 5 Kind task.points
 task = { from = [0, 0], to = [1, 1], height = 0, points = [0, 1] } > 6 Range task.points
 task = { from = [0, 0], to = [1, 1], height = 0, points = [1, 1025] } > 6 Range task.points
-task = { from = [0, 0], to = [1, 1], height = 0, points = [1024, 1] } > 9 NotBuilt
+task = { from = [0, 0], to = [1, 1], height = 0, points = [1024, 1] }; limits > accepted
 task = { from = [5, 5], to = [5, 6], height = 0, points = [1, 1] } > 6 Range task.to
 task = { from = [5, 5], to = [9000, 5], height = 0, points = [1, 1] } > 6 Range task.to
 task = { from = [5, 5], to = [5, 6], height = 0, points = [0, 1] } > 6 Range task.points
 task = { from = [0, 0], to = [6001, 1], height = 0, points = [1024, 1024] } > 7 Outside task
 task = { from = [0, 0], to = [1, 5001], height = 0, points = [1, 1] } > 7 Outside task
 task = { from = [0, 0], to = [1, 1], height = 3001, points = [1, 1] } > 7 Outside task
-task = { from = [0, 0], to = [6000, 5000], height = 3000, points = [1, 1] } > 9 NotBuilt
+task = { from = [0, 0], to = [6000, 5000], height = 3000, points = [1, 1] }; limits > accepted
 task = { from = [0, 0], to = [1, 1], height = 0, points = [33, 32] } > 8 TooMany task.points
-task = { from = [0, 0], to = [1, 1], height = 0, points = [32, 32] } > 9 NotBuilt
+task = { from = [0, 0], to = [1, 1], height = 0, points = [32, 32] }; limits > accepted
 task = { from = [0, 0], to = [1, 1], height = 0, points = [33, 32] }; limits = 1 > 8 TooMany task.points
 limits = 1 > 5 Kind limits
 limits = { colour = 1 } > 4 Unknown limits
@@ -200,12 +213,12 @@ room = { size = [6000, 5000, 3000], reflect = [950, 0, 950, 0, 950, 0] }; box; l
 room = { size = [6000, 5000, 3000], patch = 600 }; box; limits; lamp > accepted
 room = { size = [6000, 5000, 3000], patch = 50 }; box; limits; lamp > accepted
 room = { size = [6000, 5000, 3000], patch = 50000 }; box; limits; lamp > accepted
-room = { size = [6000, 5000, 3000] }; box; limits; lamp = [{ at = [0, 0, 0], candela = 1 }, { at = [0, 0, 0], candela = 1, set = 1 }] > 9 NotBuilt
-room = { size = [6000, 5000, 3000] }; box; limits; lamp = [{ at = [0, 0, 0], candela = 1 }, { at = [0, 0, 0], candela = 1, turn = 0 }] > 9 NotBuilt
-room = { size = [6000, 5000, 3000] }; box; limits; lamp = [{ at = [0, 0, 0], candela = 1 }, { at = [0, 0, 0], candela = 1, maintenance = 1000 }] > 9 NotBuilt
-room = { size = [6000, 5000, 3000] }; box; limits; lamp = [{ at = [0, 0, 0], candela = 1 }, { at = [0, 0, 0], candela = 1, size = [0, 0] }] > 9 NotBuilt
-room = { size = [6000, 5000, 3000] }; box; limits; lamp = [{ at = [0, 0, 0], candela = 1 }, { at = [0, 0, 0], candela = 1, split = [1, 1] }] > 9 NotBuilt
-room = { size = [6000, 5000, 3000] }; box; limits; lamp = [{ at = [0, 0, 0], file = 'a' }] > 9 NotBuilt
+room = { size = [6000, 5000, 3000] }; box; limits; lamp = [{ at = [0, 0, 0], candela = 1 }, { at = [0, 0, 0], candela = 1, set = 1 }] > accepted
+room = { size = [6000, 5000, 3000] }; box; limits; lamp = [{ at = [0, 0, 0], candela = 1 }, { at = [0, 0, 0], candela = 1, turn = 0 }] > accepted
+room = { size = [6000, 5000, 3000] }; box; limits; lamp = [{ at = [0, 0, 0], candela = 1 }, { at = [0, 0, 0], candela = 1, maintenance = 1000 }] > accepted
+room = { size = [6000, 5000, 3000] }; box; limits; lamp = [{ at = [0, 0, 0], candela = 1 }, { at = [0, 0, 0], candela = 1, size = [0, 0] }] > accepted
+room = { size = [6000, 5000, 3000] }; box; limits; lamp = [{ at = [0, 0, 0], candela = 1 }, { at = [0, 0, 0], candela = 1, split = [1, 1] }] > accepted
+room = { size = [6000, 5000, 3000] }; box; limits; lamp = [{ at = [0, 0, 0], file = 'a' }] > accepted
 room = { size = [6000, 5000, 3000] }; box = []; limits; lamp > accepted
 limits; lamp > accepted
 limits; lamp = [{ at = [3000, 3000, 3000], candela = 5000 }] > accepted
