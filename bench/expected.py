@@ -4,13 +4,16 @@
 usage: expected.py ROOM.toml
 
 It cuts the room and its boxes into patches, solves the radiosity equations by Gauss-Seidel until nothing moves by more than
-1e-10 lux, and prints the value at each task point, the average and the uniformity with six decimals. It serves even lamps, boxes
-and reflecting surfaces, and claims nothing of its own rounding, which is far below a printed hundredth.
+1e-10 lux, and prints the value at each task point, the average and the uniformity with six decimals. It serves the whole layout but
+limits. Photometric files lie where their names lead from the room's folder, and photometry.py reads them. It claims nothing of its
+own rounding, which is far below a printed hundredth.
 """
 import math
 import sys
 import tomllib
 from pathlib import Path
+
+from photometry import read_lamp
 
 UP, DOWN, EAST, WEST, NORTH, SOUTH = (2, 1), (2, -1), (0, 1), (0, -1), (1, 1), (1, -1)
 
@@ -81,22 +84,69 @@ def coefficient(boxes, p, face, patch):
     return reflect / 1000 * a * b / square * area / (math.pi * square + area)
 
 
-def direct(boxes, lamps, p, face):
-    light = 0.0
+class Source:
+    """One point of a lamp, in mm, and what it shines."""
+
+    def __init__(self, at, shine, turn, share):
+        self.at, self.shine, self.turn, self.share = at, shine, turn, share
+
+    def candela(self, p):
+        """Towards p. Gamma is counted from straight down, C from +x less the lamp's turn; straight up or down C is 0."""
+        if isinstance(self.shine, int):
+            return self.shine * self.share
+        x, y, z = (b - a for a, b in zip(self.at, p))
+        c = (math.degrees(math.atan2(y, x)) - self.turn) % 360 if x or y else 0.0
+        return self.shine.intensity(c, math.degrees(math.atan2(math.hypot(x, y), -z))) * self.share
+
+
+def sources(lamps, folder):
+    """The points of all lamps. A lamp's rectangle lies along the room's axes, whatever its turn; half mm are rounded down."""
+    files = {}
     for lamp in lamps:
-        a = front(p, face, lamp["at"])
-        if a > 0 and not blocked(boxes, list(map(float, lamp["at"])), p):
-            light += lamp["candela"] * a * 1e6 / math.dist(p, lamp["at"]) ** 3
+        shine = lamp.get("candela")
+        if shine is None:
+            key = lamp["file"], lamp.get("set", 1)
+            if key not in files:
+                files[key] = read_lamp(key[0], Path(folder, key[0]).read_bytes(), key[1]).in_floats()
+            shine = files[key]
+        (wide, deep), (columns, rows) = lamp.get("size", [0, 0]), lamp.get("split", [1, 1])
+        x, y, z = lamp["at"]
+        share = lamp.get("maintenance", 1000) / 1000 / (columns * rows)
+        for j in range(rows):
+            for i in range(columns):
+                at = (2 * x - wide + (2 * i + 1) * wide // columns) / 2, (2 * y - deep + (2 * j + 1) * deep // rows) / 2, float(z)
+                yield Source(at, shine, lamp.get("turn", 0), share)
+
+
+def direct(boxes, lights, p, face):
+    light = 0.0
+    for source in lights:
+        a = front(p, face, source.at)
+        if a > 0 and not blocked(boxes, source.at, p):
+            light += source.candela(p) * a * 1e6 / math.dist(p, source.at) ** 3
     return light
+
+
+def task_points(task):
+    """Column, row and place in mm of each task point; half mm are rounded down."""
+    columns, rows = task["points"]
+
+    def middle(axis, parts, k):
+        edge = task["to"][axis] - task["from"][axis]
+        return (2 * task["from"][axis] + (2 * k + 1) * edge // parts) / 2
+
+    for j in range(rows):
+        for i in range(columns):
+            yield i, j, [middle(0, columns, i), middle(1, rows, j), float(task["height"])]
 
 
 def main():
     document = tomllib.loads(Path(sys.argv[1]).read_text())
     room, task = document["room"], document["task"]
-    boxes, lamps = document.get("box", []), document.get("lamp", [])
+    boxes, lights = document.get("box", []), list(sources(document.get("lamp", []), Path(sys.argv[1]).parent))
     patches = [t for s in surfaces(room, boxes) for t in tiles(*s, room.get("patch", 600))]
     rows = [[coefficient(boxes, p[0], p[1], other) for other in patches] for p in patches]
-    light = [direct(boxes, lamps, p[0], p[1]) for p in patches]
+    light = [direct(boxes, lights, p[0], p[1]) for p in patches]
     greatest = max(map(sum, rows))
     print("patches", len(patches), "greatest row sum", f"{greatest:.6f}", "of row", [sum(r) for r in rows].index(greatest))
     if greatest >= 1:
@@ -109,21 +159,13 @@ def main():
             moved = max(moved, abs(new - solved[i]))
             solved[i] = new
     values = []
-    columns, lines = task["points"]
-    for j in range(lines):
-        for i in range(columns):
-            # half mm, rounded down
-            def middle(axis, parts, k):
-                edge = task["to"][axis] - task["from"][axis]
-                return (2 * task["from"][axis] + (2 * k + 1) * edge // parts) / 2
-
-            p = [middle(0, columns, i), middle(1, lines, j), float(task["height"])]
-            if any(all(b["lo"][a] < p[a] < b["hi"][a] for a in range(3)) for b in boxes):
-                print("point", i, j, "covered")
-                continue
-            value = direct(boxes, lamps, p, UP) + sum(coefficient(boxes, p, UP, o) * h for o, h in zip(patches, solved))
-            print("point", i, j, f"{value:.6f}")
-            values.append(value)
+    for i, j, p in task_points(task):
+        if any(all(b["lo"][a] < p[a] < b["hi"][a] for a in range(3)) for b in boxes):
+            print("point", i, j, "covered")
+            continue
+        value = direct(boxes, lights, p, UP) + sum(coefficient(boxes, p, UP, o) * h for o, h in zip(patches, solved))
+        print("point", i, j, f"{value:.6f}")
+        values.append(value)
     if values:
         mean = sum(values) / len(values)
         print("average", f"{mean:.6f}")

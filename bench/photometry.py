@@ -1,15 +1,17 @@
 #!/usr/bin/env python3
-"""A second reader of EULUMDAT, in Python's fractions and with none of Lux's code: the values against which the tests compare.
+"""A second reader of EULUMDAT and LM-63, in Python's fractions and with none of Lux's code: the values against which the tests compare.
 
-usage: photometry.py FILE.ldt [SET] [C,GAMMA ..]     the summary, and in each direction the intensity and the ticks at or below it
+usage: photometry.py FILE [SET] [C,GAMMA ..]         the summary, and in each direction the intensity and the ticks at or below it
        photometry.py --tests TESTS.rt                the same for the files and rows in that file of tests; it says where they differ
 
-A direction is in degrees. An intensity is the line's value times the conversion factor times the flux of the lamp set by 1000. C is
-folded into the measured half-planes by the file's symmetry, and between neighbouring angles the intensity runs in a straight line.
-Ticks are 2^-36 candela. It takes the file to be sound, and looks for no faults.
+A direction is in degrees. An intensity is the line's value times the conversion factor times the flux of the lamp set by 1000; in
+LM-63, which a name that ends in .ies tells, the value times the multiplier times the ballast factor, and under IESNA91 times the item
+after it. C is folded into the measured half-planes by the file's symmetry, and between neighbouring angles the intensity runs in a
+straight line. Ticks are 2^-36 candela. It takes the file to be sound, and looks for no faults.
 """
 import re
 import sys
+from bisect import bisect_right
 from fractions import Fraction
 from math import ceil, floor
 from pathlib import Path
@@ -29,67 +31,56 @@ def lines_of(data):
     return [line.removesuffix("\r") for line in data.decode("latin-1").split("\n")]
 
 
-class Lamp:
-    """What was measured: angles C of the stored half-planes, angles G, and the intensities in candela."""
+# how the measured half-planes stand for all others
+NONE, AXIS, PLANE0, PLANE90, BOTH = range(5)
 
-    def __init__(self, data, lamp_set):
-        lines = lines_of(data)
-        at = lambda k: number(lines[k - 1])
-        self.isym, count_c, count_g = int(at(3)), int(at(4)), int(at(6))
-        sets = int(at(26))
-        scale = at(24) * at(29 + 6 * (lamp_set - 1)) / 1000
-        first = 27 + 6 * sets + 10
-        angles = [at(first + i) for i in range(count_c)]
-        self.all = angles
-        self.gammas = [at(first + count_c + i) for i in range(count_g)]
-        # the first stored half-plane, counted from 0, and how many are stored
-        start, stored = {
-            0: (0, count_c),
-            1: (0, 1),
-            2: (0, count_c // 2 + 1),
-            3: (3 * count_c // 4, count_c // 2 + 1),
-            4: (0, count_c // 4 + 1),
-        }[self.isym]
-        self.planes = []
-        for i in range(stored):
-            angle = angles[(start + i) % count_c]
-            self.planes.append(angle - 360 if self.isym == 3 and angle > 180 else angle)
-        first += count_c + count_g
-        self.values = [[at(first + p * count_g + g) * scale for g in range(count_g)] for p in range(stored)]
+
+class Lamp:
+    """What was measured: the symmetry, angles C of the stored half-planes, angles gamma, and the intensities in candela."""
+
+    def __init__(self, symmetry, planes, gammas, values):
+        self.symmetry, self.planes, self.gammas, self.values = symmetry, planes, gammas, values
+
+    def in_floats(self):
+        """The same in double precision, which is much faster."""
+        floats = lambda numbers: [float(n) for n in numbers]
+        return Lamp(self.symmetry, floats(self.planes), floats(self.gammas), [floats(row) for row in self.values])
 
     def fold(self, c):
         """The measured angle that stands for C."""
-        if self.isym == 1:
+        if self.symmetry == AXIS:
             return self.planes[0]
-        if self.isym in (2, 4) and c > 180:
+        if self.symmetry in (PLANE0, BOTH) and c > 180:
             c = 360 - c
-        if self.isym == 4 and c > 90:
+        if self.symmetry == BOTH and c > 90:
             c = 180 - c
-        if self.isym == 3:
+        if self.symmetry == PLANE90:
             c = 180 - c if 90 < c <= 270 else c - 360 if c > 270 else c
+            # the half-planes of an LM-63 file run from 90 to 270
+            c = 180 - c if self.planes[-1] == 270 else c
         return c
 
     def half_planes(self):
         """How many half-planes, around the whole turn, have a measured one that stands for them."""
-        if self.isym == 1:
+        if self.symmetry == AXIS:
             return 1
-        turns = {0: [lambda a: a], 2: [lambda a: a, lambda a: -a], 3: [lambda a: a, lambda a: 180 - a]}
-        turns[4] = [lambda a: a, lambda a: -a, lambda a: 180 - a, lambda a: 180 + a]
-        return len({turn(a) % 360 for a in self.planes for turn in turns[self.isym]})
+        turns = {NONE: [lambda a: a], PLANE0: [lambda a: a, lambda a: -a], PLANE90: [lambda a: a, lambda a: 180 - a]}
+        turns[BOTH] = [lambda a: a, lambda a: -a, lambda a: 180 - a, lambda a: 180 + a]
+        return len({turn(a) % 360 for a in self.planes for turn in turns[self.symmetry]})
 
     def intensity(self, c, g):
         if not self.gammas[0] <= g <= self.gammas[-1]:
-            return Fraction(0)
+            return 0 * self.values[0][0]
         c = self.fold(c)
-        planes, rows = list(self.planes), list(self.values)
-        if self.isym == 0:
+        planes, rows = self.planes, self.values
+        if self.symmetry == NONE:
             if c < planes[0]:
                 c += 360
-            planes.append(planes[0] + 360)
-            rows.append(rows[0])
+            planes, rows = planes + [planes[0] + 360], rows + [rows[0]]
         if len(planes) == 1:
             return line(self.gammas, rows[0], g)
-        return line(planes, [line(self.gammas, row, g) for row in rows], c)
+        i = piece(planes, c)
+        return line(planes[i:i + 2], [line(self.gammas, row, g) for row in rows[i:i + 2]], c)
 
     def summary(self):
         greatest = max(max(row) for row in self.values)
@@ -99,12 +90,64 @@ class Lamp:
         return f"planes {self.half_planes()} gammas {len(self.gammas)} greatest {cents(low)} {cents(high)}"
 
 
+def read_eulumdat(data, lamp_set):
+    lines = lines_of(data)
+    at = lambda k: number(lines[k - 1])
+    isym, count_c, count_g = int(at(3)), int(at(4)), int(at(6))
+    sets = int(at(26))
+    scale = at(24) * at(29 + 6 * (lamp_set - 1)) / 1000
+    first = 27 + 6 * sets + 10
+    angles = [at(first + i) for i in range(count_c)]
+    gammas = [at(first + count_c + i) for i in range(count_g)]
+    # the first stored half-plane, counted from 0, and how many are stored
+    start, stored = {
+        0: (0, count_c),
+        1: (0, 1),
+        2: (0, count_c // 2 + 1),
+        3: (3 * count_c // 4, count_c // 2 + 1),
+        4: (0, count_c // 4 + 1),
+    }[isym]
+    planes = []
+    for i in range(stored):
+        angle = angles[(start + i) % count_c]
+        planes.append(angle - 360 if isym == 3 and angle > 180 else angle)
+    first += count_c + count_g
+    return Lamp(isym, planes, gammas, [[at(first + p * count_g + g) * scale for g in range(count_g)] for p in range(stored)])
+
+
+def read_lm63(data):
+    lines = lines_of(data)
+    tilt = next(k for k, line in enumerate(lines) if line.startswith("TILT="))
+    items = [number(item) for item in re.split(r"[ \t\r\n,\x1a]+", "\n".join(lines[tilt + 1:])) if item]
+    if lines[tilt].rstrip(" \t\r") == "TILT=INCLUDE":
+        del items[:2 + 2 * int(items[1])]
+    count_g, count_c = int(items[3]), int(items[4])
+    scale = items[2] * items[10] * (items[11] if lines[0].rstrip(" \t\r") == "IESNA91" else 1)
+    gammas, planes = items[13:13 + count_g], items[13 + count_g:13 + count_g + count_c]
+    first = 13 + count_g + count_c
+    values = [[items[first + p * count_g + g] * scale for g in range(count_g)] for p in range(count_c)]
+    if count_c == 1:
+        return Lamp(AXIS, planes, gammas, values)
+    symmetry = {(0, 90): BOTH, (0, 180): PLANE0, (90, 270): PLANE90}.get((planes[0], planes[-1]), NONE)
+    # the values at a whole turn aren't used
+    return Lamp(symmetry, *((planes[:-1], gammas, values[:-1]) if planes[-1] == 360 else (planes, gammas, values)))
+
+
+def read_lamp(name, data, lamp_set=1):
+    return read_lm63(data) if name.lower().endswith(".ies") else read_eulumdat(data, lamp_set)
+
+
+def piece(xs, x):
+    """The place of the angle from which the piece that holds x runs to the next."""
+    if not xs[0] <= x <= xs[-1]:
+        raise ValueError(x)
+    return min(bisect_right(xs, x), len(xs) - 1) - 1
+
+
 def line(xs, ys, x):
     """The value at x on the straight pieces from (xs[i], ys[i]) to the next."""
-    for (a, u), (b, v) in zip(zip(xs, ys), list(zip(xs, ys))[1:]):
-        if a <= x <= b:
-            return u + (v - u) * (x - a) / (b - a)
-    raise ValueError(x)
+    i = piece(xs, x)
+    return ys[i] + (ys[i + 1] - ys[i]) * (x - xs[i]) / (xs[i + 1] - xs[i])
 
 
 def ticks_below(value):
@@ -120,7 +163,7 @@ def check(source):
         rows = re.search(rf'const {name}_ROWS: &str =\s*"([^"]*)";', source)
         if rows is None:
             continue
-        lamp = Lamp(text.encode(), 1)
+        lamp = read_eulumdat(text.encode(), 1)
         found = [[int(n) for n in row.split()] for row in rows[1].splitlines()]
         for c, g, ticks in found:
             wanted = ticks_below(lamp.intensity(Fraction(c, 10**6), Fraction(g, 10**6)))
@@ -141,7 +184,7 @@ def main():
         check(Path(words[1]).read_text())
     name, *words = words
     lamp_set = int(words.pop(0)) if words and "," not in words[0] else 1
-    lamp = Lamp(Path(name).read_bytes(), lamp_set)
+    lamp = read_lamp(name, Path(name).read_bytes(), lamp_set)
     print(lamp.summary())
     for word in words:
         c, g = (Fraction(part) for part in word.split(","))

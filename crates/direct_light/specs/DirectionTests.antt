@@ -1,7 +1,7 @@
 -- The step from a lamp's point to a place, and the intensity of a table there, computed.
-use Rattle.std.specs.Prelude.{◌≡◌, ℕ, Bool, ◌&&◌, true, pos, negsuc, [], ◌∷◌, refl}
+use Rattle.std.specs.Prelude.{◌≡◌, Bool, ◌&&◌, true, pos, negsuc, [], ◌∷◌, refl}
 use Rattle.fx_base.specs.Fraction.{Fraction, at_most, ratio, whole, half_power, ◌+ᶠ◌, ◌-ᶠ◌}
-use Rattle.fx_base.specs.Interval.{Interval, exact}
+use Rattle.fx_base.specs.Interval.{exact}
 use Rattle.room_layout.specs.Place.{Place}
 use Rattle.room_layout.specs.declared.room.Lamp.{Lamp}
 use Rattle.room_layout.specs.declared.room.Shine.TheVariants.{File}

@@ -1,5 +1,5 @@
 //! Points of lamps and shares at some places. The shares are those that expected/shares.py prints.
-ghost use Rattle.std.specs.Prelude.{◌≡◌, ◌≤◌, pos, ◌≤ℤ◌};
+ghost use Rattle.std.specs.Prelude.{◌≡◌, ◌≤◌};
 ghost use Rattle.room_layout.specs.Accepted.{IsBetween};
 ghost use Rattle.room_layout.specs.Positions.{IsInReach};
 ghost use Rattle.direct_light.specs.Lamps.{IsLamp};
@@ -10,7 +10,6 @@ use photo_table::PhotoTable;
 use room_layout::{Face, Lamp, Point, Shine, Size};
 use series_enclose::TangentTable;
 use std::alloc::{AllocError, Global};
-use std::process::Abort;
 use std::test::Fail;
 
 /// A thousandth of a lux, in ticks.

@@ -1,5 +1,7 @@
 //! Whole runs over the files and the output that stand in for the real ones.
 mod faults;
+mod lamps;
+mod luminaires;
 mod panel;
 mod reads;
 mod refusals;

@@ -24,9 +24,10 @@ fn written<O: Sink>(out: &mut O, status: Status, text: &[u8]) -> Status
     }
 }
 
-/// Runs a command: `report ROOM` reads a room layout from the shelf and writes the illuminance at its task points, the average
-/// and the uniformity; `sight ROOM X Y Z X Y Z` writes whether a box of the room stands between two points, in mm, and which is the
-/// first. `words` are those after the program's name.
+/// Runs a command: `report ROOM` reads a room layout and the photometric files of its lamps from the shelf and writes the illuminance
+/// at its task points, the average and the uniformity; `sight ROOM X Y Z X Y Z` writes whether a box of the room stands between two
+/// points, in mm, and which is the first; `read FILE` and `read FILE SET` sum up a photometric file. `words` are those after the
+/// program's name.
 ///
 /// The text is made whole before its first byte is written, and what it says is proved: see the definitions `IsAnswer` and
 /// `IsRight`.

@@ -39,19 +39,19 @@ pub fold_is : (ps : List ℕ) (first last : ℕ) → AreEnds ps first last → (
 unfolding fold is_measured folded test
 fold_is ps first last h c = rw (h.begins, h.ends) refl
 
-stays_within : (first last : ℕ) (c : Fraction) → millionths first ≤ᶠ c → c ≤ᶠ millionths last → folded first last c ≡ c
+pub stays_within : (first last : ℕ) (c : Fraction) → millionths first ≤ᶠ c → c ≤ᶠ millionths last → folded first last c ≡ c
 unfolding folded test
 stays_within first last c h g = if_true _ c (whole 540 -ᶠ c) (within (at_most (millionths first) c) (at_most c (millionths last)) (at_most (c +ᶠ whole 360) (millionths last)) (at_most_true h) (at_most_true g))
 
-stays_later : (first last : ℕ) (c : Fraction) → (c +ᶠ whole 360) ≤ᶠ millionths last → folded first last c ≡ c
+pub stays_later : (first last : ℕ) (c : Fraction) → (c +ᶠ whole 360) ≤ᶠ millionths last → folded first last c ≡ c
 unfolding folded test
 stays_later first last c h = if_true _ c (whole 540 -ᶠ c) (later (at_most (millionths first) c) (at_most c (millionths last)) (at_most (c +ᶠ whole 360) (millionths last)) (at_most_true h))
 
-turns_below : (first last : ℕ) (c : Fraction) → c <ᶠ millionths first → millionths last <ᶠ (c +ᶠ whole 360) → folded first last c ≡ whole 540 -ᶠ c
+pub turns_below : (first last : ℕ) (c : Fraction) → c <ᶠ millionths first → millionths last <ᶠ (c +ᶠ whole 360) → folded first last c ≡ whole 540 -ᶠ c
 unfolding folded test
 turns_below first last c h g = if_false _ c (whole 540 -ᶠ c) (below (at_most (millionths first) c) (at_most c (millionths last)) (at_most (c +ᶠ whole 360) (millionths last)) (at_most_not h) (at_most_not g))
 
-turns_above : (first last : ℕ) (c : Fraction) → millionths last <ᶠ c → millionths last <ᶠ (c +ᶠ whole 360) → folded first last c ≡ whole 540 -ᶠ c
+pub turns_above : (first last : ℕ) (c : Fraction) → millionths last <ᶠ c → millionths last <ᶠ (c +ᶠ whole 360) → folded first last c ≡ whole 540 -ᶠ c
 unfolding folded test
 turns_above first last c h g = if_false _ c (whole 540 -ᶠ c) (above (at_most (millionths first) c) (at_most c (millionths last)) (at_most (c +ᶠ whole 360) (millionths last)) (at_most_not h) (at_most_not g))
 

@@ -77,7 +77,7 @@ axis_seen end m im one c y =
 
 -- ---- the mirrors
 
-rise_once : (m : Table) → IsTable m → (n : ℕ) → first_of m.planes ≡ n → n < 360000000 → RiseOnce m.planes
+pub rise_once : (m : Table) → IsTable m → (n : ℕ) → first_of m.planes ≡ n → n < 360000000 → RiseOnce m.planes
 rise_once m is n e p = record { some = is.some_plane; rise = is.planes_rise; first = omega arith; one_turn = is.one_turn }
 
 two_of : (m : Table) → IsTable m → (a b : ℕ) → AreEnds m.planes a b → 2 ≤ length m.planes
@@ -86,7 +86,7 @@ two_of m is a b h = elim (cases_lt (length m.planes) 2) [
   | inr g ↦ g
 ]
 
-goes : (m : Table) → IsTable m → (a b times base : ℕ) → AreEnds m.planes a b → 1 ≤ times → times ≤ 2 → times * (2 * (b - a)) ≡ 360000000 → a ≤ base → base + a ≤ 2 * b → GoesRound m.planes times base
+pub goes : (m : Table) → IsTable m → (a b times base : ℕ) → AreEnds m.planes a b → 1 ≤ times → times ≤ 2 → times * (2 * (b - a)) ≡ 360000000 → a ≤ base → base + a ≤ 2 * b → GoesRound m.planes times base
 goes m is a b times base h some few turn before reached = record {
   two = two_of m is a b h;
   some = some;
@@ -97,7 +97,7 @@ goes m is a b times base h some few turn before reached = record {
 }
 
 -- the way of a direction between given ends
-way_between : (end : Interval → Fraction) (m : Table) (times base a b : ℕ) → IsTable m → a < 360000000 → AreEnds m.planes a b → GoesRound m.planes times base → (c : Fraction)
+pub way_between : (end : Interval → Fraction) (m : Table) (times base a b : ℕ) → IsTable m → a < 360000000 → AreEnds m.planes a b → GoesRound m.planes times base → (c : Fraction)
     → Way end (round_trip times base m) m (turn_later c) base (2 * (b - a)) a b
 way_between end m times base a b im small h r c =
     let rise = rise_once m im a h.begins small in

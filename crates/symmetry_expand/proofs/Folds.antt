@@ -16,19 +16,19 @@ use Rattle.symmetry_expand.proofs.Ways.{SameAcross}
 
 -- ---- the mirrors, by cases
 
-mirror_0_stays : (c : Fraction) → c ≤ᶠ whole 180 → mirror_0 c ≡ c
+pub mirror_0_stays : (c : Fraction) → c ≤ᶠ whole 180 → mirror_0 c ≡ c
 unfolding mirror_0
 mirror_0_stays c h = if_true (at_most c (whole 180)) c (whole 360 -ᶠ c) (at_most_true h)
 
-mirror_0_turns : (c : Fraction) → whole 180 <ᶠ c → mirror_0 c ≡ whole 360 -ᶠ c
+pub mirror_0_turns : (c : Fraction) → whole 180 <ᶠ c → mirror_0 c ≡ whole 360 -ᶠ c
 unfolding mirror_0
 mirror_0_turns c h = if_false (at_most c (whole 180)) c (whole 360 -ᶠ c) (at_most_not h)
 
-mirror_90_stays : (c : Fraction) → c ≤ᶠ whole 90 → mirror_90 c ≡ c
+pub mirror_90_stays : (c : Fraction) → c ≤ᶠ whole 90 → mirror_90 c ≡ c
 unfolding mirror_90
 mirror_90_stays c h = if_true (at_most c (whole 90)) c (whole 180 -ᶠ c) (at_most_true h)
 
-mirror_90_turns : (c : Fraction) → whole 90 <ᶠ c → mirror_90 c ≡ whole 180 -ᶠ c
+pub mirror_90_turns : (c : Fraction) → whole 90 <ᶠ c → mirror_90 c ≡ whole 180 -ᶠ c
 unfolding mirror_90
 mirror_90_turns c h = if_false (at_most c (whole 90)) c (whole 180 -ᶠ c) (at_most_not h)
 

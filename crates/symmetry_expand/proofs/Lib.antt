@@ -14,3 +14,4 @@ pub mod Across
 pub mod AllFolded
 pub mod Measures
 pub mod FromLists
+pub mod PlanesFolded

@@ -14,7 +14,7 @@ use Rattle.symmetry_expand.proofs.Joined.{joined_get, row_length, row_get, ones_
 use Rattle.symmetry_expand.proofs.Rounds.{turn_angle, turn_steps, turn_later, from_base, turn_planes_are, angles_of}
 use Rattle.symmetry_expand.proofs.Turned.{rows_length}
 
-trip_planes : (m : Table) (times base : ℕ) → (round_trip times base m).planes ≡ joined (λ i. turn_angle m.planes base i ∷ []) (turn_steps m.planes times)
+pub trip_planes : (m : Table) (times base : ℕ) → (round_trip times base m).planes ≡ joined (λ i. turn_angle m.planes base i ∷ []) (turn_steps m.planes times)
 unfolding round_trip
 trip_planes m times base = refl
 

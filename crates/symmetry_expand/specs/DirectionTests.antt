@@ -1,12 +1,15 @@
 -- The intensity in twelve directions of unfolded tables. The values are those of a program in Python, with its own fractions, that
 -- looks up the measured planes at the angle that stands for C.
 use Rattle.std.specs.Prelude.{ℕ, ◌≡◌, Bool, true, ◌&&◌, List, [], ◌∷◌, refl}
-use Rattle.fx_base.specs.Fraction.{Fraction, ratio, whole, at_most}
+use Rattle.std.proofs.Common.{lit≤}
+use Rattle.fx_base.specs.Fraction.{Fraction, ◌-ᶠ◌, ratio, whole, at_most}
 use Rattle.fx_base.specs.Interval.{Interval, exact}
+use Rattle.fx_base.specs.Units.{millionths}
 use Rattle.photo_table.specs.Table.{Table, bilinear}
 use Rattle.photo_table.specs.Tests.{computed}
 use Rattle.symmetry_expand.specs.declared.symmetry.Symmetry.TheVariants.{None, Axis, Plane0, Plane90, Both}
 use Rattle.symmetry_expand.specs.AllRound.{all_round}
+use Rattle.symmetry_expand.specs.Fold.{IsMeasuredAngle, fold, is_measured, mirror_0}
 use Rattle.symmetry_expand.specs.PlaneTests.{unfolded}
 
 abbrev is : Interval → Fraction → Bool
@@ -90,3 +93,15 @@ none_at_230_and_30 = refl
 plane90_at_95_and_0 : is (bilinear (all_round Plane90 m_plane90) (whole 95) (whole 0)) (ratio 15 2) ≡ true
 unfolding computed unfolded
 plane90_at_95_and_0 = refl
+
+-- ---- which half-planes there are
+
+-- mirrored at 0, 310 degrees stand for the measured 50
+folded_to_50 : IsMeasuredAngle (0 ∷ 50000000 ∷ 180000000 ∷ []) (fold Plane0 [] (millionths 310000000))
+unfolding computed ◌-ᶠ◌ fold mirror_0
+folded_to_50 = record { place = 1; within = lit≤ tt; turns = 0; turns_of_it = 0; is = record { cross = refl } }
+
+-- mirrored at 90, 0 degrees stand for the measured 180, by the way of 540
+folded_to_180 : IsMeasuredAngle (90000000 ∷ 180000000 ∷ 270000000 ∷ []) (fold Plane90 (90000000 ∷ 180000000 ∷ 270000000 ∷ []) (millionths 0))
+unfolding computed ◌-ᶠ◌ fold is_measured
+folded_to_180 = record { place = 1; within = lit≤ tt; turns = 0; turns_of_it = 1; is = record { cross = refl } }

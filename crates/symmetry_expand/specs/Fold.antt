@@ -1,5 +1,5 @@
 -- The measured angle that stands for C, and the intensity that a table of all planes has there.
-use Rattle.std.specs.Prelude.{ℕ, ◌<◌, ◌≡◌, Bool, ◌&&◌, ◌||◌, ◌⊎◌, if◌then◌else◌, List, length, slice_index_or}
+use Rattle.std.specs.Prelude.{ℕ, ◌*◌, ◌<◌, ◌≡◌, ◌↔◌, [], ◌∷◌, Bool, ◌&&◌, ◌||◌, ◌⊎◌, if◌then◌else◌, List, length, slice_index_or}
 use Rattle.fx_base.specs.Fraction.{Fraction, ◌<ᶠ◌, ◌≈ᶠ◌, ◌+ᶠ◌, ◌-ᶠ◌, at_most, whole}
 use Rattle.fx_base.specs.Interval.{Interval}
 use Rattle.fx_base.specs.Units.{millionths}
@@ -54,3 +54,35 @@ RunAs Both planes = AreEnds planes 0 90000000
 -- the intensity in each direction is the measured one at the angle that stands for it
 abbrev pub AllRoundIsFolded : Type 0
 AllRoundIsFolded = (s : Symmetry) (m : Table) → IsTable m → RunAs s m.planes → IsFoldedBy s m (all_round s m)
+
+-- ---- which half-planes there are
+
+-- c is one of these angles
+pub record IsAmong (angles : List ℕ) (c : ℕ) : Type 0 where
+  pub place : ℕ
+  pub within : place < length angles
+  pub is : slice_index_or angles place 0 ≡ c
+
+-- it is, up to whole turns, a measured angle
+pub record IsMeasuredAngle (angles : List ℕ) (x : Fraction) : Type 0 where
+  pub place : ℕ
+  pub within : place < length angles
+  pub turns : ℕ
+  pub turns_of_it : ℕ
+  pub is : (x +ᶠ whole (360 * turns)) ≈ᶠ (millionths (slice_index_or angles place 0) +ᶠ whole (360 * turns_of_it))
+
+-- of the angles below 360 degrees t has those that are folded onto measured ones
+abbrev pub HasFolded : Symmetry → Table → Table → Type 0
+HasFolded s m t = (c : ℕ) → c < 360000000 → IsAmong t.planes c ↔ IsMeasuredAngle m.planes (fold s m.planes (millionths c))
+
+-- and with the same all round it has the angle 0 alone
+abbrev pub HasPlanes : Symmetry → Table → Table → Type 0
+HasPlanes None m t = HasFolded None m t
+HasPlanes Axis m t = t.planes ≡ 0 ∷ []
+HasPlanes Plane0 m t = HasFolded Plane0 m t
+HasPlanes Plane90 m t = HasFolded Plane90 m t
+HasPlanes Both m t = HasFolded Both m t
+
+-- the half-planes of the table are those that stand for measured ones
+abbrev pub PlanesAreFolded : Type 0
+PlanesAreFolded = (s : Symmetry) (m : Table) → IsTable m → RunAs s m.planes → HasPlanes s m (all_round s m)
