@@ -9,7 +9,7 @@ mod quotient;
 mod reach;
 mod weigh;
 
-pub use reach::factor;
+pub use reach::{factor, point_factor};
 pub use room_layout::{Position, in_front, position_of, squared_distance};
 
 #[cfg(test)]

@@ -2,8 +2,8 @@
 ghost use Rattle.std.specs.Prelude.{◌<◌, ◌≤◌, ◌+◌, ◌^◌, ◌≤ℤ◌, pos};
 ghost use Rattle.patch_mesh.specs.Bounds.{IsPatchIn, IsPointIn, largest_room};
 
-use crate::factor;
 use crate::quotient::{guess, quotient};
+use crate::{factor, point_factor};
 use fx_base::Weight;
 use patch_mesh::Patch;
 use room_layout::{Face, Point};
@@ -87,12 +87,12 @@ const WALLS: [Patch; 4] = [
 // floor(x * 2**36).
 #[test]
 fn surfaces_of_a_cube_of_2_m(rt: HostRuntime) {
-    let facing = factor(FLOOR.centre, FLOOR.face, &CEILING, true);
+    let facing = factor(&FLOOR, &CEILING, true);
     assert!(rt; holds(facing, 8_296_262_148));
     assert_eq!(rt; hundred_millionths(facing.lo), 12_072_650);
     assert_eq!(rt; hundred_millionths(facing.hi), 12_072_650);
     for wall in &WALLS {
-        let weight = factor(FLOOR.centre, FLOOR.face, wall, true);
+        let weight = factor(&FLOOR, wall, true);
         assert!(rt; holds(weight, 6_682_703_333));
         assert_eq!(rt; hundred_millionths(weight.lo), 9_724_613);
         assert_eq!(rt; hundred_millionths(weight.hi), 9_724_613);
@@ -102,17 +102,17 @@ fn surfaces_of_a_cube_of_2_m(rt: HostRuntime) {
 #[test]
 fn nothing_to_itself_and_nothing_where_the_way_is_not_clear(rt: HostRuntime) {
     let nothing = Weight { lo: 0, hi: 0 };
-    assert_eq!(rt; factor(FLOOR.centre, FLOOR.face, &FLOOR, true), nothing);
-    assert_eq!(rt; factor(FLOOR.centre, FLOOR.face, &CEILING, false), nothing);
+    assert_eq!(rt; factor(&FLOOR, &FLOOR, true), nothing);
+    assert_eq!(rt; factor(&FLOOR, &CEILING, false), nothing);
     let desk = Point {
         x: 2000,
         y: 2000,
         z: 1500,
     };
-    assert_eq!(rt; factor(desk, Face::Up, &FLOOR, true), nothing);
-    assert_eq!(rt; factor(desk, Face::Up, &CEILING, false), nothing);
+    assert_eq!(rt; point_factor(desk, &FLOOR, true), nothing);
+    assert_eq!(rt; point_factor(desk, &CEILING, false), nothing);
     // 0.5 * 16,000,000 / (pi * 2500**2 + 16,000,000)
-    assert!(rt; holds(factor(desk, Face::Up, &CEILING, true), 15_427_431_520));
+    assert!(rt; holds(point_factor(desk, &CEILING, true), 15_427_431_520));
 }
 
 /// A patch of the floor at one corner of a room, and one of the ceiling at the opposite corner.
@@ -141,7 +141,7 @@ fn opposite(edge: i32, margin: i32, area: u64) -> Weight
         area,
         reflect: 950,
     };
-    factor(floor.centre, floor.face, &ceiling, true)
+    factor(&floor, &ceiling, true)
 }
 
 // 0.95 * (d**2 / R) * A / (pi * R + A): mpmath at 60 digits, floor(x * 2**36), with d = 100,000, R = 2 (d - 2 m)**2 + d**2.

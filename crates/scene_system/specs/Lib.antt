@@ -5,6 +5,7 @@ pub mod Causes
 pub mod Tables
 pub mod Positions
 pub mod Parts
+pub mod Receivers
 pub mod RowSums
 pub mod Laws
 mod SceneTests

@@ -9,6 +9,7 @@ pub mod laws;
 mod light;
 mod limits;
 mod points;
+mod receiver;
 mod scene;
 mod sight;
 mod weights;

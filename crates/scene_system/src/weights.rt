@@ -1,52 +1,52 @@
-//! The weights with which patches light a place.
+//! The weights with which patches light one of them or a task point.
 ghost use Rattle.std.specs.Prelude.{◌≡◌, ℕ, ◌<◌, ◌≤◌, IfOk, length};
 ghost use Rattle.room_layout.specs.Place.{place_of};
 ghost use Rattle.room_layout.specs.declared.geometry.Face.TheVariants.{Up};
-ghost use Rattle.patch_mesh.specs.Bounds.{IsPatchIn, IsPointIn, largest_room};
+ghost use Rattle.patch_mesh.specs.Bounds.{IsPatchIn, largest_room};
 ghost use Rattle.form_factor.specs.Weights.{IsCoefficient};
 ghost use Rattle.scene_system.specs.Light.{is_clear};
 ghost use Rattle.scene_system.specs.Parts.{ArePatchesOf, AreTaskPointsOf, AreRowsAt, IsRowAt};
+ghost use Rattle.scene_system.specs.Receivers.{face_lit, place_lit, IsReceiverIn};
 ghost use Rattle.scene_system.specs.Scene.{patch_count, patch_face, patch_place, task_point_place};
 
+use crate::receiver::{Receiver, open_weight, point_lit};
 use crate::sight::is_clear;
-use form_factor::factor;
 use fx_base::{Memory, Weight};
 use interval_system::Row;
 use patch_mesh::{Patch, TaskPoint};
-use room_layout::{Face, Point, Room};
+use room_layout::Room;
 use std::alloc::Global;
 
-/// The weight with which patch `b` lights a plane with this face at a point. Sight is asked only where something is handed on.
-fn weight_at(room: &Room, at: Point, face: Face, b: &Patch) -> Weight
-    requires at { IsPointIn largest_room at }
+/// The weight with which patch `b` lights a receiver. Sight is asked only where something is handed on.
+fn weight_at(room: &Room, receiver: Receiver, b: &Patch) -> Weight
+    requires receiver { IsReceiverIn receiver }
     requires b { IsPatchIn largest_room b.now }
-    ensures { IsCoefficient (place_of at) face b.now (is_clear room.now (place_of at) (place_of b.now.centre)) result }
+    ensures { IsCoefficient (place_lit receiver) (face_lit receiver) b.now (is_clear room.now (place_lit receiver) (place_of b.now.centre)) result }
 {
-    let open = factor(at, face, b, true);
+    let open = open_weight(receiver, b);
     if open.hi == 0 {
         return open;
     }
-    if is_clear(room, at, b.centre) {
+    if is_clear(room, point_lit(receiver), b.centre) {
         return open;
     }
     Weight::NONE
 }
 
-/// The weights with which the patches of the room light a plane with this face at a point.
+/// The weights with which the patches of the room light a receiver.
 fn row_at(
     alloc: Global,
     room: &Room,
     patches: &[Patch],
-    at: Point,
-    face: Face,
+    receiver: Receiver,
 ) -> Result<Row, Memory>
     requires patches { ArePatchesOf room.now patches.now }
-    requires at { IsPointIn largest_room at }
-    ensures { IfOk result (λ row. IsRowAt room.now (place_of at) face row) }
+    requires receiver { IsReceiverIn receiver }
+    ensures { IfOk result (λ row. IsRowAt room.now (place_lit receiver) (face_lit receiver) row) }
 {
     let mut row = Row::new(alloc, patches.len())?;
     for j in 0..patches.len() {
-        row.put(j, weight_at(room, at, face, &patches[j]));
+        row.put(j, weight_at(room, receiver, &patches[j]));
     }
     Ok(row)
 }
@@ -58,8 +58,8 @@ pub fn patch_rows(alloc: Global, room: &Room, patches: &[Patch]) -> Result<Vec<R
 {
     let mut rows = Vec::new(alloc);
     for i in 0..patches.len() {
-        let patch = &patches[i];
-        let row = row_at(alloc, room, patches, patch.centre, patch.face)?;
+        let receiver = Receiver::Patch(patches[i]);
+        let row = row_at(alloc, room, patches, receiver)?;
         rows.push(row)?;
     }
     Ok(rows)
@@ -78,7 +78,8 @@ pub fn point_rows(
 {
     let mut rows = Vec::new(alloc);
     for g in 0..points.len() {
-        let row = row_at(alloc, room, patches, points[g].at, Face::Up)?;
+        let receiver = Receiver::Point(points[g].at);
+        let row = row_at(alloc, room, patches, receiver)?;
         rows.push(row)?;
     }
     Ok(rows)
