@@ -34,12 +34,7 @@ fn weight_at(room: &Room, receiver: Receiver, b: &Patch) -> Weight
 }
 
 /// The weights with which the patches of the room light a receiver.
-fn row_at(
-    alloc: Global,
-    room: &Room,
-    patches: &[Patch],
-    receiver: Receiver,
-) -> Result<Row, Memory>
+fn row_at(alloc: Global, room: &Room, patches: &[Patch], receiver: Receiver) -> Result<Row, Memory>
     requires patches { ArePatchesOf room.now patches.now }
     requires receiver { IsReceiverIn receiver }
     ensures { IfOk result (λ row. IsRowAt room.now (place_lit receiver) (face_lit receiver) row) }
