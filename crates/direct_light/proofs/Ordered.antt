@@ -1,5 +1,5 @@
 -- The ends of intensities and shares are in order at every depth.
-use Rattle.std.proofs.Common.{ℕ, zero, suc, ◌+◌, ◌*◌, ◌^◌, ◌<◌, ◌≤◌, ◌≡◌, inl, inr, Bool, true, false, nat_lt, nat_le, arith, refl, ℤ}
+use Rattle.std.proofs.Common.{ℕ, zero, suc, ◌+◌, ◌*◌, ◌<◌, ◌≤◌, ◌≡◌, inl, inr, Bool, true, false, nat_lt, nat_le, arith, refl, ℤ}
 use Rattle.std.proofs.Math.Nat.{mul-pos}
 use Rattle.std.proofs.lemmas.Bool.Decides.{nat_tests}
 use Rattle.fx_base.specs.Fraction.{Fraction, ◌≤ᶠ◌, ◌+ᶠ◌, ◌*ᶠ◌, ◌/ᶠ◌, ratio, whole, half_power}
@@ -8,9 +8,8 @@ use Rattle.fx_base.specs.Root.{root}
 use Rattle.fx_base.proofs.Order.{le_refl_f, le_trans_f, add_le_f, add_zero_f, mul_le_f, le_add_f, sub_le_self_f, le_of_eq_f}
 use Rattle.fx_base.proofs.Ratios.{ratio_le_ratio, over_le_any, le_lesser}
 use Rattle.fx_base.proofs.RootLaws.{root_nested}
-use Rattle.fx_base.proofs.SearchLaws.{is_true_or_false, greatest_within}
-use Rattle.series_enclose.specs.Slant.{slant, slant_with}
-use Rattle.series_enclose.proofs.SlantLaws.{candidate_45}
+use Rattle.fx_base.proofs.SearchLaws.{is_true_or_false}
+use Rattle.series_enclose.specs.Slant.{slant}
 use Rattle.room_layout.specs.Place.{Place, in_front, squared_distance}
 use Rattle.room_layout.specs.declared.geometry.Face.{Face}
 use Rattle.room_layout.specs.declared.room.Lamp.{Lamp}
@@ -18,6 +17,7 @@ use Rattle.room_layout.specs.declared.room.Shine.{Shine}
 use Rattle.room_layout.specs.declared.room.Shine.TheVariants.{Even, File}
 use Rattle.angle_bracket.specs.Direction.{square, is_positive, less_angle, quarter_angle, direction_gamma}
 use Rattle.angle_bracket.proofs.Ordered.{c_in_order, gamma_in_order}
+use Rattle.angle_bracket.proofs.Candidates.{low_within}
 use Rattle.photo_table.specs.Hull.{hull}
 use Rattle.photo_table.specs.Laws.{loose_c, loose_gamma}
 use Rattle.photo_table.specs.Table.{Table, value, bilinear, lower, upper}
@@ -108,14 +108,10 @@ within_half : (m : ℕ) → m ≤ 180 → whole m ≤ᶠ whole 180
 unfolding whole
 within_half m h = record { cross = omega arith }
 
-slant_below : (n x y : ℕ) → (slant n x y).lo ≤ᶠ whole 45
-unfolding slant slant_with
-slant_below n x y = candidate_45 n _ (greatest_within _ (45 * 2 ^ n))
-
 quarter_below : (n x y : ℕ) → (quarter_angle n x y).lo ≤ᶠ whole 180
 unfolding quarter_angle less_angle
 quarter_below n x y = elim (is_true_or_false (nat_le y x)) [
-  | inl e ↦ rw (quarter_angle, e) (le_trans_f (slant_below n x y) (within_half 45 (omega arith)))
+  | inl e ↦ rw (quarter_angle, e) (le_trans_f (low_within n x y) (within_half 45 (omega arith)))
   | inr e ↦ rw (quarter_angle, e) (le_trans_f (sub_le_self_f (whole 90) (slant n y x).hi) (within_half 90 (omega arith)))
 ]
 

@@ -7,6 +7,7 @@ use Rattle.fx_base.specs.Ends.{Ends}
 use Rattle.fx_base.specs.Units.{ticks, millionths, natural, of_span, of_bracket}
 use Rattle.fx_base.specs.declared.micro.Bracket.{Bracket}
 use Rattle.fx_base.proofs.Order.{le_refl_f, le_trans_f, add_le_f, add_zero_f, le_add_f, add_right_f, sub_le_f, sub_back_f}
+use Rattle.fx_base.proofs.Rounding.{natural-mono}
 use Rattle.room_layout.specs.Place.{Place, squared_distance}
 use Rattle.room_layout.specs.declared.room.Lamp.{Lamp}
 use Rattle.angle_bracket.specs.Direction.{direction_c, direction_gamma}
@@ -27,11 +28,6 @@ millionths_le : (a b : ℕ) → a ≤ b → millionths a ≤ᶠ millionths b
 unfolding millionths
 millionths_le a b h = record { cross = omega arith }
 
-natural_le : (a b : ℤ) → pos 0 ≤ℤ a → a ≤ℤ b → natural a ≤ natural b
-natural_le (pos a) (pos b) g h = omega (arith, ints)
-natural_le (pos a) (negsuc b) g h = absurd (omega (arith, ints))
-natural_le (negsuc a) b g h = absurd (omega (arith, ints))
-
 natural_most : (a : ℤ) (m : ℕ) → a ≤ℤ pos m → natural a ≤ m
 natural_most (pos a) m h = omega (arith, ints)
 natural_most (negsuc a) m h = omega arith
@@ -46,7 +42,7 @@ natural_narrow (pos a) (negsuc b) m g h = omega arith
 natural_narrow (negsuc a) b m g h = absurd (omega (arith, ints))
 
 bracket_order : (b : Bracket) → IsNarrowBracket b → InOrder (of_bracket b)
-bracket_order b h = millionths_le (natural b.lo.0) (natural b.hi.0) (natural_le b.lo.0 b.hi.0 h.not_negative h.in_order)
+bracket_order b h = millionths_le (natural b.lo.0) (natural b.hi.0) (natural-mono b.lo.0 b.hi.0 h.not_negative h.in_order)
 
 width : (a b : ℕ) → b ≤ a + 250 → millionths b ≤ᶠ (millionths a +ᶠ bracket_width)
 unfolding millionths ratio ◌+ᶠ◌

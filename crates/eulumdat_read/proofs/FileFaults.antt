@@ -7,7 +7,8 @@ use Rattle.decimal_text.specs.declared.number.NumberFault.{NumberFault}
 use Rattle.decimal_text.specs.declared.number.NumberFault.TheVariants.{NotNumber, TooLarge}
 use Rattle.symmetry_expand.specs.declared.symmetry.ExpandFault.TheVariants as expand
 use Rattle.symmetry_expand.specs.Stored.{multiple_of}
-use Rattle.eulumdat_read.specs.Items.{◌>>=◌, demand, line_at, or_fault, number_at, ranged, measured_at, count_at, angles_at, fluxes_at, lit, value_at, values_at, all_blank}
+use Rattle.decimal_text.specs.Steps.{◌>>=◌, demand}
+use Rattle.eulumdat_read.specs.Items.{line_at, or_fault, number_at, ranged, measured_at, count_at, angles_at, fluxes_at, lit, value_at, values_at, all_blank}
 use Rattle.eulumdat_read.specs.Ldt.{Head, symmetry_by, head_of, flux_at, run_well, stored_angles, planes_at, body_of, ldt}
 use Rattle.eulumdat_read.specs.Lines.{is_blank_byte}
 use Rattle.eulumdat_read.specs.declared.fault.LdtFault.{LdtFault}

@@ -10,12 +10,13 @@ use Rattle.symmetry_expand.specs.declared.symmetry.Symmetry.TheVariants as symme
 use Rattle.symmetry_expand.specs.Stored.{multiple_of, stored_count}
 use Rattle.eulumdat_read.specs.declared.fault.LdtFault.TheVariants as fault
 use Rattle.eulumdat_read.specs.Grammar.{AreStored, Counts, FitsLdt, HasFlux, IsBlank, LdtIsFit, RunAsNeeded, SayAngles, SayIntensities, SaysIn, indicator}
-use Rattle.eulumdat_read.specs.Items.{all_blank, angles_at, count_at, demand, fluxes_at, measured_at, values_at}
+use Rattle.decimal_text.specs.Steps.{demand}
+use Rattle.eulumdat_read.specs.Items.{all_blank, angles_at, count_at, fluxes_at, measured_at, values_at}
 use Rattle.eulumdat_read.specs.Ldt.{Head, LdtFile, body_of, flux_at, planes_at, run_well, end_line, gammas_line, head_of, ldt, planes_line, stored_angles, symmetry_by, value_count, values_line}
 use Rattle.eulumdat_read.proofs.Said.{count_of, in_of, of_count, of_in}
 use Rattle.eulumdat_read.proofs.SaidPlanes.{Stored, measured_of, says_stored, stored_says}
 use Rattle.eulumdat_read.proofs.SaidRuns.{angles_of, blanks_of, flux_is, flux_of, fluxes_from, intensities_of, of_angles, of_blanks, of_intensities}
-use Rattle.eulumdat_read.proofs.Steps.{both_gave, gives_both, held, ok_of}
+use Rattle.decimal_text.proofs.Steps.{both_gave, gives_both, held, ok_of}
 
 -- ---- lines 1 to 26
 

@@ -5,7 +5,6 @@ pub mod StoredPlanes
 pub mod Rounded
 pub mod BodySteps
 pub mod FileFaults
-pub mod Steps
 pub mod Said
 pub mod SaidRuns
 pub mod SaidPlanes

@@ -1,5 +1,5 @@
 -- What one line says.
-use Rattle.std.proofs.Common.{ℕ, ◌+◌, ◌-◌, ◌*◌, ◌/◌, ◌%◌, ◌≤◌, ◌≡◌, ◌==◌, Bool, true, false, cond, ◌&&◌, nat_le, List, [], length, slice_index_or, ℤ, pos, negsuc, Ok, Err, Result, refl, ap, sym, ◌∙◌, arith}
+use Rattle.std.proofs.Common.{ℕ, ◌+◌, ◌-◌, ◌*◌, ◌/◌, ◌%◌, ◌≤◌, ◌≡◌, Bool, true, false, cond, ◌&&◌, nat_le, List, [], length, slice_index_or, ℤ, pos, negsuc, Ok, Err, Result, refl, ap, sym, ◌∙◌, arith}
 use Rattle.std.proofs.lemmas.Bool.Decides.{nat_tests}
 use Rattle.decimal_text.specs.Numbers.{number}
 use Rattle.decimal_text.specs.declared.number.Mark.TheVariants.{PointOrComma}
@@ -7,9 +7,10 @@ use Rattle.decimal_text.specs.declared.number.NumberFault.{NumberFault}
 use Rattle.decimal_text.specs.declared.number.NumberFault.TheVariants.{NotNumber, TooLarge}
 use Rattle.eulumdat_read.specs.declared.fault.LdtFault.TheVariants as fault
 use Rattle.eulumdat_read.specs.Grammar.{Counts, IsIntensity, Says, SaysIn}
-use Rattle.eulumdat_read.specs.Items.{counted, count_at, line_at, lit, measured_at, number_at, or_fault, ranged, value_at}
+use Rattle.decimal_text.specs.Steps.{counted}
+use Rattle.eulumdat_read.specs.Items.{count_at, line_at, lit, measured_at, number_at, or_fault, ranged, value_at}
 use Rattle.eulumdat_read.specs.Lines.{trimmed}
-use Rattle.eulumdat_read.proofs.Steps.{both_gave}
+use Rattle.decimal_text.proofs.Steps.{both_gave, count_is}
 
 -- ---- a number
 
@@ -72,18 +73,11 @@ of_in lines k low high n h =
 
 -- ---- a whole number
 
-count_is : (k m n : ℕ) → counted k m ≡ Ok n → m ≡ n * 1000000
-count_is k m n h = at (m % 1000000 == 0) refl h
-  where
-    at : (b : Bool) → (m % 1000000 == 0) ≡ b → cond b (Ok (m / 1000000)) (Err (fault.Range k)) ≡ Ok n → m ≡ n * 1000000
-    at true e h = let i : m / 1000000 ≡ n = cc in let j : m % 1000000 ≡ 0 = grind (arith, nat_tests) in omega arith
-    at false e h = absurd (cc)
-
 pub count_of : (lines : List (List ℕ)) (k low high n : ℕ) → count_at lines k low high ≡ Ok n → Counts lines k low high n
 unfolding count_at
 count_of lines k low high n h =
-    let s = both_gave (measured_at lines k (low * 1000000) (high * 1000000)) (counted k) n h in
-    in_of lines k (low * 1000000) (high * 1000000) (n * 1000000) (s.1 ∙ ap Ok (count_is k s.0 n s.2))
+    let s = both_gave (measured_at lines k (low * 1000000) (high * 1000000)) (counted (fault.Range k)) n h in
+    in_of lines k (low * 1000000) (high * 1000000) (n * 1000000) (s.1 ∙ ap Ok (count_is (fault.Range k) s.0 n s.2))
 
 pub of_count : (lines : List (List ℕ)) (k low high n : ℕ) → Counts lines k low high n → count_at lines k low high ≡ Ok n
 unfolding count_at

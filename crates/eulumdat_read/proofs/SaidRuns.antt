@@ -10,9 +10,10 @@ use Rattle.fx_base.proofs.Truth.{le_true}
 use Rattle.symmetry_expand.specs.Measured.{micro}
 use Rattle.eulumdat_read.specs.declared.fault.LdtFault.TheVariants as fault
 use Rattle.eulumdat_read.specs.Grammar.{HasFlux, IsIntensity, SayAngles, SayIntensities, Says, SaysIn, angle}
-use Rattle.eulumdat_read.specs.Items.{◌>>=◌, all_blank, angles_at, demand, fluxes_at, measured_at, value_at, values_at}
+use Rattle.decimal_text.specs.Steps.{◌>>=◌, demand}
+use Rattle.eulumdat_read.specs.Items.{all_blank, angles_at, fluxes_at, measured_at, value_at, values_at}
 use Rattle.eulumdat_read.specs.Lines.{is_blank_byte}
-use Rattle.eulumdat_read.proofs.Steps.{both_gave, held, ok_of}
+use Rattle.decimal_text.proofs.Steps.{both_gave, held, ok_of}
 use Rattle.eulumdat_read.proofs.Said.{in_of, of_in, intensity_of, of_intensity, says_one}
 
 -- ---- angles

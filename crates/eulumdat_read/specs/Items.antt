@@ -1,8 +1,9 @@
 -- What stands in one line, or the fault of it. Lines are numbered from 1.
-use Rattle.std.specs.Prelude.{ℕ, zero, suc, ◌+◌, ◌-◌, ◌*◌, ◌/◌, ◌%◌, ◌^◌, ◌==◌, Bool, ◌&&◌, nat_le, if◌then◌else◌, List, [], ◌∷◌, ◌++◌, length, slice_index_or, ℤ, pos, negsuc, Result, Ok, Err}
+use Rattle.std.specs.Prelude.{ℕ, zero, suc, ◌+◌, ◌-◌, ◌*◌, ◌^◌, ◌&&◌, nat_le, if◌then◌else◌, List, [], ◌∷◌, ◌++◌, length, slice_index_or, ℤ, pos, negsuc, Result, Ok, Err}
 use Rattle.std.specs.List.{list_all}
 use Rattle.fx_base.specs.declared.Micro.{Micro}
 use Rattle.decimal_text.specs.Numbers.{number}
+use Rattle.decimal_text.specs.Steps.{◌>>=◌, counted, demand}
 use Rattle.decimal_text.specs.declared.number.Mark.TheVariants.{PointOrComma}
 use Rattle.decimal_text.specs.declared.number.NumberFault.{NumberFault}
 use Rattle.decimal_text.specs.declared.number.NumberFault.TheVariants.{NotNumber, TooLarge}
@@ -10,15 +11,6 @@ use Rattle.symmetry_expand.specs.Measured.{micro}
 use Rattle.eulumdat_read.specs.Lines.{trimmed, is_blank_byte}
 use Rattle.eulumdat_read.specs.declared.fault.LdtFault.{LdtFault}
 use Rattle.eulumdat_read.specs.declared.fault.LdtFault.TheVariants as fault
-
-infixl 10 ◌>>=◌
-abbrev pub ◌>>=◌ : {A B : Type 0} → Result A LdtFault → (A → Result B LdtFault) → Result B LdtFault
-(Ok x) >>= f = f x
-(Err e) >>= f = Err e
-
--- it is so, or the fault
-abbrev pub demand : Bool → LdtFault → Result (Unit {0}) LdtFault
-demand b e = if b then Ok tt else Err e
 
 -- line k; whoever asks for a line that isn't there is told the first one that is missing
 unfoldable pub line_at : List (List ℕ) → ℕ → Result (List ℕ) LdtFault
@@ -46,12 +38,9 @@ ranged k lo hi (negsuc n) = Err (fault.Range k)
 unfoldable pub measured_at : List (List ℕ) → ℕ → ℕ → ℕ → Result ℕ LdtFault
 measured_at lines k lo hi = number_at lines k >>= ranged k lo hi
 
-abbrev pub counted : ℕ → ℕ → Result ℕ LdtFault
-counted k n = if n % 1000000 == 0 then Ok (n / 1000000) else Err (fault.Range k)
-
 -- a whole number from lo to hi
 unfoldable pub count_at : List (List ℕ) → ℕ → ℕ → ℕ → Result ℕ LdtFault
-count_at lines k lo hi = measured_at lines k (lo * 1000000) (hi * 1000000) >>= counted k
+count_at lines k lo hi = measured_at lines k (lo * 1000000) (hi * 1000000) >>= counted (fault.Range k)
 
 -- ---- runs of lines; `front` is what was read of the run before
 

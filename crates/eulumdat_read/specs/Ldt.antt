@@ -11,7 +11,8 @@ use Rattle.symmetry_expand.specs.declared.symmetry.ExpandFault.TheVariants as ex
 use Rattle.symmetry_expand.specs.AllRound.{all_round, joined}
 use Rattle.symmetry_expand.specs.Measured.{no_angle, first_angle, last_angle, lifted, runs_as_needed}
 use Rattle.symmetry_expand.specs.Stored.{multiple_of, first_stored, stored_count}
-use Rattle.eulumdat_read.specs.Items.{◌>>=◌, demand, count_at, measured_at, angles_at, fluxes_at, values_at, all_blank}
+use Rattle.decimal_text.specs.Steps.{◌>>=◌, demand}
+use Rattle.eulumdat_read.specs.Items.{count_at, measured_at, angles_at, fluxes_at, values_at, all_blank}
 use Rattle.eulumdat_read.specs.declared.fault.LdtFault.{LdtFault}
 use Rattle.eulumdat_read.specs.declared.fault.LdtFault.TheVariants as fault
 

@@ -11,7 +11,7 @@ use Rattle.lm63_read.specs.Values.{values_at}
 use Rattle.lm63_read.specs.Sizes.{Sizes, shift_of, further_at, sizes_of}
 use Rattle.lm63_read.specs.Files.{IesFile, ended_at, last_item, table_at, ies}
 use Rattle.lm63_read.specs.Grammar.{IsShift, IsFurther, Says, SaysIn, AreVerticals, AreHorizontals, AreProducts, FitsIes, IesIsFit}
-use Rattle.lm63_read.proofs.Steps.{both_gave, gives_both, held, ok_of}
+use Rattle.decimal_text.proofs.Steps.{both_gave, gives_both, held, ok_of}
 use Rattle.lm63_read.proofs.Said.{in_of, of_in, count_of, of_count, type_of, of_type, is_shift, of_shift, is_further, of_further}
 use Rattle.lm63_read.proofs.Followed.{verticals_of, of_verticals, horizontals_of, of_horizontals}
 use Rattle.lm63_read.proofs.Multiplied.{products_of, of_products}

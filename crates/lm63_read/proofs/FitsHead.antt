@@ -9,7 +9,7 @@ use Rattle.lm63_read.specs.Items.{items_of}
 use Rattle.lm63_read.specs.Files.{IesFile}
 use Rattle.lm63_read.specs.Head.{file_of, first_line, found, header_of, next_lines, tilt_from, tilted, trimmed}
 use Rattle.lm63_read.specs.Grammar.{FileIsFit, FitsFile, IsTilt, Names}
-use Rattle.lm63_read.proofs.Steps.{both_gave}
+use Rattle.decimal_text.proofs.Steps.{both_gave}
 use Rattle.lm63_read.proofs.Fits.{fits_of, of_fits}
 
 -- a test of two texts that was passed

@@ -1,19 +1,21 @@
 -- Angles in the words of the grammar.
-use Rattle.std.proofs.Common.{ℕ, zero, suc, ◌+◌, ◌-◌, ◌*◌, ◌<◌, ◌≡◌, ◌⊎◌, inl, inr, Bool, true, false, ◌==◌, ◌&&◌, ◌||◌, nat_lt, List, [], length, take, get_or, ℤ, pos, Ok, Option, Some, None, is_some, refl, ap, sym, subst, ◌∙◌, arith}
+use Rattle.std.proofs.Common.{ℕ, zero, suc, ◌+◌, ◌-◌, ◌*◌, ◌<◌, ◌≡◌, ◌⊎◌, inl, inr, Bool, true, false, ◌==◌, ◌||◌, nat_lt, List, [], length, take, get_or, ℤ, pos, Ok, Option, Some, None, is_some, refl, ap, sym, subst, ◌∙◌, arith}
 use Rattle.std.specs.Prelude.{int_lt, ◌<ℤ◌}
 use Rattle.std.proofs.lemmas.Bool.Decides.{nat_tests, Decides-int_eq}
 use Rattle.std.proofs.lemmas.Int.{ints}
 use Rattle.std.proofs.lemmas.List.{length-take-le, get_or-take, get_or_default}
 use Rattle.fx_base.specs.declared.micro.Micro.{Micro}
-use Rattle.fx_base.proofs.Truth.{both_of, both_true}
+use Rattle.fx_base.proofs.Truth.{both_true}
 use Rattle.symmetry_expand.specs.declared.symmetry.Symmetry.{Symmetry}
 use Rattle.lm63_read.specs.declared.angles.AngleKind.{AngleKind}
 use Rattle.lm63_read.specs.declared.angles.AngleKind.TheVariants.{Vertical, Horizontal}
 use Rattle.lm63_read.specs.declared.fault.IesFault.TheVariants as fault
-use Rattle.lm63_read.specs.Reads.{◌>>=◌, demand, number_at}
+use Rattle.decimal_text.specs.Steps.{◌>>=◌, demand}
+use Rattle.lm63_read.specs.Reads.{number_at}
 use Rattle.lm63_read.specs.Angles.{angle_at, angles_at, fits, first_of, is_degrees, last_of, micro, rises, symmetry_of}
 use Rattle.lm63_read.specs.Grammar.{AreAngles, AreHorizontals, AreVerticals, IsDegrees, Says, angle}
-use Rattle.lm63_read.proofs.Steps.{both_gave, held, ok_of, gives_of_run, run_of_gives}
+use Rattle.decimal_text.proofs.Steps.{both_gave, held, ok_of}
+use Rattle.lm63_read.proofs.Steps.{gives_of_run, run_of_gives}
 use Rattle.lm63_read.proofs.Said.{says_of, of_says}
 
 -- ---- each angle follows those in front of it

@@ -1,5 +1,5 @@
 -- What one item says.
-use Rattle.std.proofs.Common.{ℕ, ◌+◌, ◌-◌, ◌*◌, ◌/◌, ◌%◌, ◌≤◌, ◌≡◌, ◌==◌, Bool, true, false, cond, ◌&&◌, ◌||◌, nat_le, List, [], length, slice_index_or, ℤ, pos, negsuc, Ok, Err, Result, refl, ap, sym, subst, ◌∙◌, arith}
+use Rattle.std.proofs.Common.{ℕ, ◌+◌, ◌-◌, ◌*◌, ◌/◌, ◌%◌, ◌≤◌, ◌≡◌, Bool, true, false, cond, ◌&&◌, ◌||◌, nat_le, List, [], length, slice_index_or, ℤ, pos, negsuc, Ok, Err, Result, refl, ap, sym, subst, ◌∙◌, arith}
 use Rattle.std.specs.Ordering.{int_eq}
 use Rattle.std.proofs.lemmas.Bool.Decides.{nat_tests, Decides-int_eq}
 use Rattle.decimal_text.specs.Numbers.{number}
@@ -9,11 +9,12 @@ use Rattle.decimal_text.specs.declared.number.NumberFault.TheVariants.{NotNumber
 use Rattle.lm63_read.specs.declared.fault.IesFault.TheVariants as fault
 use Rattle.lm63_read.specs.declared.head.Header.{Header}
 use Rattle.lm63_read.specs.declared.head.Header.TheVariants.{Of1991, Of1995, Of2002}
-use Rattle.lm63_read.specs.Reads.{item_at, numbered, number_at, natural_of, ranged, measured_at, counted, count_at, typed, type_at}
+use Rattle.decimal_text.specs.Steps.{counted}
+use Rattle.lm63_read.specs.Reads.{item_at, numbered, number_at, natural_of, ranged, measured_at, count_at, typed, type_at}
 use Rattle.lm63_read.specs.Values.{lit, value_at}
 use Rattle.lm63_read.specs.Sizes.{shift_of, further_at}
 use Rattle.lm63_read.specs.Grammar.{Says, SaysIn, IsShift, IsFurther, IsProduct, none, included}
-use Rattle.lm63_read.proofs.Steps.{both_gave, ok_of}
+use Rattle.decimal_text.proofs.Steps.{both_gave, ok_of, count_is}
 
 -- ---- a number
 
@@ -72,18 +73,11 @@ of_in items k low high n h =
 
 -- ---- a whole number
 
-count_is : (k m n : ℕ) → counted k m ≡ Ok n → m ≡ n * 1000000
-count_is k m n h = at (m % 1000000 == 0) refl h
-  where
-    at : (b : Bool) → (m % 1000000 == 0) ≡ b → cond b (Ok (m / 1000000)) (Err (fault.Range k)) ≡ Ok n → m ≡ n * 1000000
-    at true e h = let i : m / 1000000 ≡ n = cc in let j : m % 1000000 ≡ 0 = grind (arith, nat_tests) in omega arith
-    at false e h = absurd (cc)
-
 pub count_of : (items : List (List ℕ)) (k low high n : ℕ) → count_at items k low high ≡ Ok n → SaysIn items k (low * 1000000) (high * 1000000) (n * 1000000)
 unfolding count_at
 count_of items k low high n h =
-    let s = both_gave (measured_at items k (low * 1000000) (high * 1000000)) (counted k) n h in
-    in_of items k (low * 1000000) (high * 1000000) (n * 1000000) (s.1 ∙ ap Ok (count_is k s.0 n s.2))
+    let s = both_gave (measured_at items k (low * 1000000) (high * 1000000)) (counted (fault.Range k)) n h in
+    in_of items k (low * 1000000) (high * 1000000) (n * 1000000) (s.1 ∙ ap Ok (count_is (fault.Range k) s.0 n s.2))
 
 pub of_count : (items : List (List ℕ)) (k low high n : ℕ) → SaysIn items k (low * 1000000) (high * 1000000) (n * 1000000) → count_at items k low high ≡ Ok n
 unfolding count_at

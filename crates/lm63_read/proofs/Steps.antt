@@ -1,25 +1,8 @@
--- Steps that may fail, and runs of them.
-use Rattle.std.proofs.Common.{ℕ, zero, suc, ◌+◌, ◌-◌, ◌<◌, ◌≡◌, Bool, true, false, List, [], ◌∷◌, ◌++◌, length, take, get_or, Ok, Err, Result, refl, ap, sym, ◌∙◌, arith, append_assoc, append-nil}
+-- Runs of steps that may fail.
+use Rattle.std.proofs.Common.{ℕ, zero, suc, ◌+◌, ◌-◌, ◌<◌, ◌≡◌, List, [], ◌∷◌, ◌++◌, length, take, get_or, Ok, Result, refl, ap, sym, ◌∙◌, arith, append_assoc, append-nil}
 use Rattle.lm63_read.specs.declared.fault.IesFault.{IesFault}
-use Rattle.lm63_read.specs.Reads.{◌>>=◌, demand}
-
--- two steps gave y: the first gave some x, and the second y of it
-pub both_gave : {A B : Type 0} (r : Result A IesFault) (f : A → Result B IesFault) (y : B) → (r >>= f) ≡ Ok y → (x : A) × (r ≡ Ok x) × (f x ≡ Ok y)
-both_gave (Ok x) f y h = (x, refl, h)
-both_gave (Err e) f y h = absurd (cc)
-
-pub gives_both : {A B : Type 0} (r : Result A IesFault) (f : A → Result B IesFault) (x : A) (y : B) → r ≡ Ok x → f x ≡ Ok y → (r >>= f) ≡ Ok y
-gives_both r f x y h g = rw h g
-
-pub held : (b : Bool) (e : IesFault) (u : Unit {0}) → demand b e ≡ Ok u → b ≡ true
-held true e u h = refl
-held false e u h = absurd (cc)
-
-abbrev accepted : {A : Type 0} → A → Result A IesFault
-accepted x = Ok x
-
-pub ok_of : {A : Type 0} (x y : A) → accepted x ≡ accepted y → x ≡ y
-ok_of x y h = cc
+use Rattle.decimal_text.specs.Steps.{◌>>=◌}
+use Rattle.decimal_text.proofs.Steps.{both_gave, gives_both, ok_of}
 
 -- a run gives what is in front and then what each of its steps gives
 pub record RunGives {A : Type 0} (next : ℕ → List A → ℕ → Result A IesFault) (k : ℕ) (front : List A) (n : ℕ) (xs : List A) : Type 0 where

@@ -15,7 +15,7 @@ use Rattle.lm63_read.specs.Head.{file_of, first_line, found, header_of, next_lin
 use Rattle.lm63_read.specs.Grammar.{FitsIes, angle}
 use Rattle.lm63_read.specs.Spans.{IsReading, span_of, spans_of}
 use Rattle.lm63_read.specs.Tables.{kept, kept_planes, kept_values}
-use Rattle.lm63_read.proofs.Steps.{both_gave}
+use Rattle.decimal_text.proofs.Steps.{both_gave}
 use Rattle.lm63_read.proofs.Fits.{fits_of}
 use Rattle.lm63_read.proofs.Kept.{are_gammas, ends_of, is_kept, last_most}
 use Rattle.lm63_read.proofs.Unfolds.{are_suited, rise_within_turn, run_as_needed}

@@ -8,7 +8,8 @@ use Rattle.lm63_read.specs.declared.angles.AngleKind.{AngleKind}
 use Rattle.lm63_read.specs.declared.angles.AngleKind.TheVariants.{Vertical, Horizontal}
 use Rattle.lm63_read.specs.declared.fault.IesFault.{IesFault}
 use Rattle.lm63_read.specs.declared.fault.IesFault.TheVariants as fault
-use Rattle.lm63_read.specs.Reads.{◌>>=◌, demand, number_at}
+use Rattle.decimal_text.specs.Steps.{◌>>=◌, demand}
+use Rattle.lm63_read.specs.Reads.{number_at}
 
 -- so many degrees
 abbrev pub is_degrees : ℕ → ℤ → Bool

@@ -5,7 +5,7 @@ use Rattle.lm63_read.specs.declared.head.Header.{Header}
 use Rattle.lm63_read.specs.declared.angles.AngleKind.TheVariants.{Vertical, Horizontal}
 use Rattle.lm63_read.specs.declared.fault.IesFault.{IesFault}
 use Rattle.lm63_read.specs.declared.fault.IesFault.TheVariants as fault
-use Rattle.lm63_read.specs.Reads.{◌>>=◌, demand}
+use Rattle.decimal_text.specs.Steps.{◌>>=◌, demand}
 use Rattle.lm63_read.specs.Angles.{angles_at}
 use Rattle.lm63_read.specs.Values.{values_at}
 use Rattle.lm63_read.specs.Sizes.{Sizes, sizes_of}

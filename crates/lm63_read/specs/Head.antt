@@ -3,7 +3,7 @@ use Rattle.std.specs.Prelude.{ℕ, ◌+◌, ◌-◌, ◌==◌, nat_eq, Bool, tru
 use Rattle.std.specs.List.{prefix_len, suffix_len, starts_with}
 use Rattle.std.specs.Str.{bytes_eq}
 use Rattle.lm63_read.specs.Items.{items_of}
-use Rattle.lm63_read.specs.Reads.{◌>>=◌}
+use Rattle.decimal_text.specs.Steps.{◌>>=◌}
 use Rattle.lm63_read.specs.Files.{ies, IesFile}
 use Rattle.lm63_read.specs.declared.head.Header.{Header}
 use Rattle.lm63_read.specs.declared.head.Header.TheVariants.{Of1991, Of1995, Of2002}

@@ -1,22 +1,13 @@
 -- What an item says, and the fault of one that can't stand. Items are counted from 1, numbers are in millionths.
-use Rattle.std.specs.Prelude.{ℕ, ◌+◌, ◌-◌, ◌*◌, ◌/◌, ◌%◌, ◌==◌, Bool, ◌&&◌, ◌||◌, nat_le, if◌then◌else◌, List, [], length, slice_index_or, ℤ, pos, negsuc, Option, Some, None, Result, Ok, Err}
+use Rattle.std.specs.Prelude.{ℕ, ◌+◌, ◌-◌, ◌*◌, ◌&&◌, ◌||◌, nat_le, if◌then◌else◌, List, [], length, slice_index_or, ℤ, pos, negsuc, Option, Some, None, Result, Ok, Err}
 use Rattle.std.specs.Ordering.{int_eq}
 use Rattle.decimal_text.specs.Numbers.{number}
+use Rattle.decimal_text.specs.Steps.{◌>>=◌, counted}
 use Rattle.decimal_text.specs.declared.number.Mark.TheVariants.{Point}
 use Rattle.decimal_text.specs.declared.number.NumberFault.{NumberFault}
 use Rattle.decimal_text.specs.declared.number.NumberFault.TheVariants.{NotNumber, TooLarge}
 use Rattle.lm63_read.specs.declared.fault.IesFault.{IesFault}
 use Rattle.lm63_read.specs.declared.fault.IesFault.TheVariants as fault
-
--- ---- steps, the first of which that fails is the answer
-
-infixl 10 ◌>>=◌
-abbrev pub ◌>>=◌ : {A B : Type 0} → Result A IesFault → (A → Result B IesFault) → Result B IesFault
-(Ok x) >>= f = f x
-(Err e) >>= f = Err e
-
-abbrev pub demand : Bool → IesFault → Result (Unit {0}) IesFault
-demand holds e = if holds then Ok tt else Err e
 
 -- ---- one item
 
@@ -45,12 +36,9 @@ ranged k least most (Some n) = if nat_le least n && nat_le n most then Ok n else
 unfoldable pub measured_at : List (List ℕ) → ℕ → ℕ → ℕ → Result ℕ IesFault
 measured_at items k least most = number_at items k >>= λ z. ranged k least most (natural_of z)
 
-abbrev pub counted : ℕ → ℕ → Result ℕ IesFault
-counted k n = if n % 1000000 == 0 then Ok (n / 1000000) else Err (fault.Range k)
-
 -- a whole number in a range
 unfoldable pub count_at : List (List ℕ) → ℕ → ℕ → ℕ → Result ℕ IesFault
-count_at items k least most = measured_at items k (least * 1000000) (most * 1000000) >>= counted k
+count_at items k least most = measured_at items k (least * 1000000) (most * 1000000) >>= counted (fault.Range k)
 
 -- 1 is photometry of type C, 2 and 3 are of types B and A
 abbrev pub typed : ℕ → ℤ → Result (Unit {0}) IesFault

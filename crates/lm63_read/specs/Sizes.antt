@@ -3,7 +3,8 @@ use Rattle.std.specs.Prelude.{ℕ, ◌+◌, ◌*◌, Bool, true, false, List, Re
 use Rattle.lm63_read.specs.declared.head.Header.{Header}
 use Rattle.lm63_read.specs.declared.head.Header.TheVariants.{Of1991, Of1995, Of2002}
 use Rattle.lm63_read.specs.declared.fault.IesFault.{IesFault}
-use Rattle.lm63_read.specs.Reads.{◌>>=◌, measured_at, count_at, type_at}
+use Rattle.decimal_text.specs.Steps.{◌>>=◌}
+use Rattle.lm63_read.specs.Reads.{measured_at, count_at, type_at}
 
 -- how many items stand before the first of the 13 that every file has: with the tilt in the file its geometry, a count m, m angles
 -- and m factors, which are passed over

@@ -3,7 +3,8 @@
 use Rattle.std.specs.Prelude.{ℕ, zero, suc, ◌+◌, ◌*◌, ◌^◌, nat_le, if◌then◌else◌, List, [], ◌∷◌, ◌++◌, Option, Some, None, Result, Ok, Err}
 use Rattle.lm63_read.specs.declared.fault.IesFault.{IesFault}
 use Rattle.lm63_read.specs.declared.fault.IesFault.TheVariants as fault
-use Rattle.lm63_read.specs.Reads.{◌>>=◌, natural_of, number_at}
+use Rattle.decimal_text.specs.Steps.{◌>>=◌}
+use Rattle.lm63_read.specs.Reads.{natural_of, number_at}
 
 -- from 0 to 10,000,000 candela
 abbrev pub lit : ℕ → ℕ → Option ℕ → Result ℕ IesFault
