@@ -25,7 +25,9 @@ fn reply_to_bytes<S: Shelf>(
     requires few { length bytes.now ≤ 16777216 }
     requires taken { S.taken shelf.old ≡ length bytes.now }
     ensures files { S.files shelf.new ≡ S.files shelf.old }
-    ensures answered { IfOk result (λ r. IsBytesAnswer asked (run (S.files shelf.old) (S.absences shelf.old) (S.absences shelf.new) (S.faults shelf.old) (S.faults shelf.new) (S.taken shelf.new)) name.now bytes.now r.status (string_bytes r.text)) }
+    ensures answered { IfOk result (λ r. IsBytesAnswer asked
+        (run (S.files shelf.old) (S.absences shelf.old) (S.absences shelf.new)
+        (S.faults shelf.old) (S.faults shelf.new) (S.taken shelf.new)) name.now bytes.now r.status (string_bytes r.text)) }
 {
     match asked {
         Question::Room(asked) => {
@@ -48,7 +50,9 @@ pub fn reply_to<S: Shelf>(
 ) -> Result<Reply, Memory>
     requires { IsInRange asked }
     ensures files { S.files shelf.new ≡ S.files shelf.old }
-    ensures answered { IfOk result (λ r. IsFileAnswer asked (run (S.files shelf.old) (S.absences shelf.old) (S.absences shelf.new) (S.faults shelf.old) (S.faults shelf.new) (S.taken shelf.new)) name.now r.status (string_bytes r.text)) }
+    ensures answered { IfOk result (λ r. IsFileAnswer asked
+        (run (S.files shelf.old) (S.absences shelf.old) (S.absences shelf.new)
+        (S.faults shelf.old) (S.faults shelf.new) (S.taken shelf.new)) name.now r.status (string_bytes r.text)) }
 {
     match take_file(alloc, shelf, name, LONGEST_FILE) {
         Ok(bytes) => {

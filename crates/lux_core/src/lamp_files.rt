@@ -46,7 +46,9 @@ fn read_lamp_file<S: Shelf>(
     ensures files { S.files shelf.new ≡ S.files shelf.old }
     ensures read { IfOk result (λ p. (read : LampFile) × WasRead (S.files shelf.old) file.now read × IsRoundedOf p read.table × (S.taken shelf.new ≡ length read.bytes)) }
     ensures stood { OnOk result ((S.absences shelf.new ≡ S.absences shelf.old) × (S.faults shelf.new ≡ S.faults shelf.old)) }
-    ensures unread { IfErr result (λ halt. Says halt (IsUnreadFile (run (S.files shelf.old) (S.absences shelf.old) (S.absences shelf.new) (S.faults shelf.old) (S.faults shelf.new) (S.taken shelf.new)) file.now)) }
+    ensures unread { IfErr result (λ halt. Says halt (IsUnreadFile
+        (run (S.files shelf.old) (S.absences shelf.old) (S.absences shelf.new)
+        (S.faults shelf.old) (S.faults shelf.new) (S.taken shelf.new)) file.now)) }
 {
     match take_file(alloc, shelf, file.name.text(), LONGEST_FILE) {
         Ok(bytes) => {
@@ -70,7 +72,9 @@ pub fn read_lamp_files<S: Shelf>(
     ensures files { S.files shelf.new ≡ S.files shelf.old }
     ensures read { IfOk result (λ ps. HasRead (S.files shelf.old) files.now (S.taken shelf.old) (S.taken shelf.new) (length files.now) ps.items) }
     ensures stood { OnOk result ((S.absences shelf.new ≡ S.absences shelf.old) × (S.faults shelf.new ≡ S.faults shelf.old)) }
-    ensures unread { IfErr result (λ halt. Says halt (HasUnreadFile (run (S.files shelf.old) (S.absences shelf.old) (S.absences shelf.new) (S.faults shelf.old) (S.faults shelf.new) (S.taken shelf.new)) files.now)) }
+    ensures unread { IfErr result (λ halt. Says halt (HasUnreadFile
+        (run (S.files shelf.old) (S.absences shelf.old) (S.absences shelf.new)
+        (S.faults shelf.old) (S.faults shelf.new) (S.taken shelf.new)) files.now)) }
 {
     let mut tables = Vec::new(alloc);
     for index in 0..files.len() {

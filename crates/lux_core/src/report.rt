@@ -78,7 +78,8 @@ fn text_of_report(
     requires lower { IsLowerAnswer scene.now.system bounds.now.lower.items }
     requires upper { IsUpperAnswer scene.now.system bounds.now.upper.items }
     requires in_order { IsInOrder scene.now.system bounds.now.lower.items bounds.now.upper.items }
-    ensures { (tables : List Table) → AreExactTables room.now tables → IsSceneOf tables room.now (numbers scene.now) → IfOk result (λ s. (r : Report) × IsRight tables room.now r × (string_bytes s ≡ report_text r)) }
+    ensures { (tables : List Table) → AreExactTables room.now tables → IsSceneOf tables room.now (numbers scene.now) →
+        IfOk result (λ s. (r : Report) × IsRight tables room.now r × (string_bytes s ≡ report_text r)) }
 {
     values_are_points();
     report_is_right();
@@ -92,7 +93,8 @@ fn reply_of_scene(alloc: Global, room: &Room, scene: &Scene) -> Result<Reply, Me
     requires accepted { IsAccepted room.now }
     requires formed { IsWellFormed (numbers scene.now) }
     requires weights { HasWeightsOf room.now (numbers scene.now) }
-    ensures { (tables : List Table) → AreExactTables room.now tables → IsWithinLimits tables room.now → IsSceneOf tables room.now (numbers scene.now) → IfOk result (λ r. IsSceneAnswer tables room.now r.status (string_bytes r.text)) }
+    ensures { (tables : List Table) → AreExactTables room.now tables → IsWithinLimits tables room.now →
+        IsSceneOf tables room.now (numbers scene.now) → IfOk result (λ r. IsSceneAnswer tables room.now r.status (string_bytes r.text)) }
 {
     heavy_has_cause();
     none_is_shown_heavy();
@@ -135,7 +137,9 @@ fn reply_by_tables(alloc: Global, room: &Room, photos: &[PhotoTable]) -> Result<
 pub fn reply_of_report<S: Shelf>(alloc: Global, room: &Room, shelf: &mut S) -> Result<Reply, Memory>
     requires accepted { IsAccepted room.now }
     ensures files { S.files shelf.new ≡ S.files shelf.old }
-    ensures answered { IfOk result (λ r. (bytes : List ℕ) → S.taken shelf.old ≡ length bytes → IsReportAnswer (run (S.files shelf.old) (S.absences shelf.old) (S.absences shelf.new) (S.faults shelf.old) (S.faults shelf.new) (S.taken shelf.new)) bytes room.now r.status (string_bytes r.text)) }
+    ensures answered { IfOk result (λ r. (bytes : List ℕ) → S.taken shelf.old ≡ length bytes → IsReportAnswer
+        (run (S.files shelf.old) (S.absences shelf.old) (S.absences shelf.new)
+        (S.faults shelf.old) (S.faults shelf.new) (S.taken shelf.new)) bytes room.now r.status (string_bytes r.text)) }
 {
     match read_lamp_files(alloc, room.files.as_slice(), shelf) {
         Ok(photos) => {

@@ -45,7 +45,9 @@ pub fn reply_to_room<S: Shelf>(
     requires asked { IsWithinReach asked }
     requires taken { S.taken shelf.old ≡ length bytes.now }
     ensures files { S.files shelf.new ≡ S.files shelf.old }
-    ensures answered { IfOk result (λ r. IsRoomAnswer asked (run (S.files shelf.old) (S.absences shelf.old) (S.absences shelf.new) (S.faults shelf.old) (S.faults shelf.new) (S.taken shelf.new)) bytes.now r.status (string_bytes r.text)) }
+    ensures answered { IfOk result (λ r. IsRoomAnswer asked
+        (run (S.files shelf.old) (S.absences shelf.old) (S.absences shelf.new)
+        (S.faults shelf.old) (S.faults shelf.new) (S.taken shelf.new)) bytes.now r.status (string_bytes r.text)) }
 {
     let room = match read_room(alloc, bytes) {
         Ok(room) => room,

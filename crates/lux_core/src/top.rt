@@ -38,12 +38,20 @@ pub fn lux<S: lux_io::Shelf, O: Sink>(
     out: &mut O,
 ) -> Status
     // The text that was written is the answer of this status, with its cause.
-    ensures answered { result ≢ Status.WriteFault → result ≢ Status.Memory → (text : List ℕ) × (O.written out.new ≡ with_bytes (O.written out.old) text) × IsAnswer (map string_bytes words.now) (run (S.files shelf.old) (S.absences shelf.old) (S.absences shelf.new) (S.faults shelf.old) (S.faults shelf.new) (S.taken shelf.new)) result text }
+    ensures answered { result ≢ Status.WriteFault → result ≢ Status.Memory →
+        (text : List ℕ) × (O.written out.new ≡ with_bytes (O.written out.old) text) × IsAnswer (map string_bytes words.now)
+        (run (S.files shelf.old) (S.absences shelf.old) (S.absences shelf.new)
+        (S.faults shelf.old) (S.faults shelf.new) (S.taken shelf.new)) result text }
     // Where the sink failed, a proper prefix was written of a text that would have been the answer.
-    ensures cut_short { result ≡ Status.WriteFault → (text : List ℕ) × (status : Status) × AddsPrefix (O.written out.old) (O.written out.new) text × IsAnswer (map string_bytes words.now) (run (S.files shelf.old) (S.absences shelf.old) (S.absences shelf.new) (S.faults shelf.old) (S.faults shelf.new) (S.taken shelf.new)) status text }
+    ensures cut_short { result ≡ Status.WriteFault →
+        (text : List ℕ) × (status : Status) × AddsPrefix (O.written out.old) (O.written out.new) text × IsAnswer (map string_bytes words.now)
+        (run (S.files shelf.old) (S.absences shelf.old) (S.absences shelf.new)
+        (S.faults shelf.old) (S.faults shelf.new) (S.taken shelf.new)) status text }
     ensures write_fault { result ≡ Status.WriteFault → Rose (O.faults out.old) (O.faults out.new) }
     // Where an answer can be given and nothing fails, only want of memory is answered in its place.
-    ensures complete { CanAnswer (map string_bytes words.now) (S.files shelf.old) → Stood (S.faults shelf.old) (S.faults shelf.new) → Stood (O.faults out.old) (O.faults out.new) → (result ≡ Status.Done) ⊎ (result ≡ Status.Memory) }
+    ensures complete { CanAnswer (map string_bytes words.now) (S.files shelf.old) →
+        Stood (S.faults shelf.old) (S.faults shelf.new) → Stood (O.faults out.old) (O.faults out.new) →
+        (result ≡ Status.Done) ⊎ (result ≡ Status.Memory) }
     // The shelf holds what it held.
     ensures files { S.files shelf.new ≡ S.files shelf.old }
     // Words that are no command leave the shelf as it is.

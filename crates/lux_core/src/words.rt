@@ -128,7 +128,9 @@ fn point_of(x: &str, y: &str, z: &str) -> Option<Point>
 /// What `sight ROOM X Y Z X Y Z` asks, where its numbers are coordinates.
 fn sight_of(words: &[String]) -> Option<Question>
     requires { length words.now ≡ 8 }
-    ensures asked { result ≡ sight_between (point_at (coordinate_at (map string_bytes words.now) 2) (coordinate_at (map string_bytes words.now) 3) (coordinate_at (map string_bytes words.now) 4)) (point_at (coordinate_at (map string_bytes words.now) 5) (coordinate_at (map string_bytes words.now) 6) (coordinate_at (map string_bytes words.now) 7)) }
+    ensures asked { result ≡ sight_between
+        (point_at (coordinate_at (map string_bytes words.now) 2) (coordinate_at (map string_bytes words.now) 3) (coordinate_at (map string_bytes words.now) 4))
+        (point_at (coordinate_at (map string_bytes words.now) 5) (coordinate_at (map string_bytes words.now) 6) (coordinate_at (map string_bytes words.now) 7)) }
     ensures within { IfSome result IsInRange }
 {
     let from = point_of(words[2].as_str(), words[3].as_str(), words[4].as_str())?;
