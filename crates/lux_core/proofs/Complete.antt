@@ -198,9 +198,9 @@ said_done : (asked : RoomQuestion) (r : Run) (told : List (List ℕ × List ℕ)
     → Stood r.faults.before r.faults.now → IsAbleOf asked told room → IsSaidOf asked r bytes room given text → given ≡ status.Done
 said_done asks.Report r told bytes room given text e s can a = reported r told bytes room given text e s can a
 said_done (asks.Sight p q) r told bytes room status.Done text e s can a = refl
-said_done (asks.Sight p q) r told bytes room status.Refused text e s can a = absurd a.1
-said_done (asks.Sight p q) r told bytes room status.ReadFault text e s can a = absurd a.1
-said_done (asks.Sight p q) r told bytes room _ text e s can a = absurd a.1
+said_done (asks.Sight p q) r told bytes room status.Refused text e s can a = absurd a.2
+said_done (asks.Sight p q) r told bytes room status.ReadFault text e s can a = absurd a.2
+said_done (asks.Sight p q) r told bytes room _ text e s can a = absurd a.2
 
 -- ---- whole answers
 
@@ -224,9 +224,9 @@ bytes_done : (asked : Question) (r : Run) (told : List (List ℕ × List ℕ)) (
     → Stood r.faults.before r.faults.now → IsAble asked told bytes → IsBytesAnswer asked r name bytes given text → given ≡ status.Done
 bytes_done (question.Room asked) r told name bytes given text e s can a = room_done asked r told bytes can.room given text e s can.accepted can.able a
 bytes_done (question.Photometry format) r told name bytes status.Done text e s can a = refl
-bytes_done (question.Photometry format) r told name bytes status.Refused text e s can a = absurd (no_fault format bytes a.1.fault can a.1.refused)
-bytes_done (question.Photometry format) r told name bytes status.ReadFault text e s can a = absurd a.1
-bytes_done (question.Photometry format) r told name bytes _ text e s can a = absurd a.1
+bytes_done (question.Photometry format) r told name bytes status.Refused text e s can a = absurd (no_fault format bytes a.2.fault can a.2.refused)
+bytes_done (question.Photometry format) r told name bytes status.ReadFault text e s can a = absurd a.2
+bytes_done (question.Photometry format) r told name bytes _ text e s can a = absurd a.2
 
 file_done : (words : List (List ℕ)) (r : Run) (given : Status) (text : List ℕ) (c : CanAnswer words r.files) → Stood r.faults.before r.faults.now
     → IsFileAnswer c.asked r (file_name words) given text → given ≡ status.Done

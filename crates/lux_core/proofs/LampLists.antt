@@ -1,12 +1,13 @@
 -- The files of a room's lamps, one after the other.
 use Rattle.std.proofs.Common.{ℕ, ◌+◌, ◌<◌, ◌≤◌, ◌≡◌, ◌⊎◌, inl, inr, List, [], ◌∷◌, ◌++◌, length, slice_index_or, refl, sym, ap, subst, ◌∙◌, arith}
-use Rattle.std.specs.Prelude.{Option, Some, IfSome, string_bytes}
+use Rattle.std.specs.Prelude.{All, Option, Some, IfSome, string_bytes}
 use Rattle.lux_io.specs.Files.{bytes_of}
 use Rattle.std.proofs.lemmas.List.{length-append, map-append, get_or_append_left, get_or_default}
 use Rattle.std.proofs.lemmas.Bool.{cases_lt}
 use Rattle.photo_table.specs.Exact.{IsRoundedOf}
 use Rattle.photo_table.specs.Table.{Table}
 use Rattle.direct_light.specs.Shares.{no_table}
+use Rattle.room_layout.specs.Accepted.{IsAccepted, IsShine}
 use Rattle.room_layout.specs.declared.room.FileUse.{FileUse}
 use Rattle.scene_system.specs.Tables.{AreTablesOf}
 use Rattle.lux_core.specs.LampFiles.{LampFile, WasRead, WereRead, HasUnreadFile, IsUnreadFile, file_at, no_file, last_bytes, nothing_read, tables_of}
@@ -17,7 +18,7 @@ use Rattle.lux_core.specs.declared.reply.Halt.TheVariants as halt
 use Rattle.lux_core.specs.Photometry.{IsReadAs, IsTableOfFile}
 use Rattle.lux_core.specs.ReportAnswers.{IsReportAnswer, IsOfTables, IsSceneAnswer}
 use Rattle.room_layout.specs.declared.room.Room.{Room}
-use Rattle.lux_core.specs.Runs.{Run, run, longest_file}
+use Rattle.lux_core.specs.Runs.{Run, HasStood, run, longest_file}
 use Rattle.lux_core.specs.declared.status.Status.{Status}
 use Rattle.lux_core.specs.declared.status.Status.TheVariants as status
 
@@ -137,12 +138,12 @@ one_halted told still files before now count absences since later faults from af
 -- ---- the report
 
 pub of_tables : (r : Run) (told : Told) (before now : ℕ) (photos : List Table) (bytes : List ℕ) (room : Room) (given : Status) (text : List ℕ)
-    → HasRead told room.files before now (length room.files) photos → told ≡ r.files → now ≡ r.taken → before ≡ length bytes
+    → HasRead told room.files before now (length room.files) photos → told ≡ r.files → now ≡ r.taken → HasStood r → before ≡ length bytes
     → ((tables : List Table) → AreTablesOf photos tables → IsSceneAnswer tables room given text) → IsReportAnswer r bytes room given text
-of_tables r told before now photos bytes room given text h e t b said = by_status given (said (tables_of h.reads) h.are)
+of_tables r told before now photos bytes room given text h e t still b said = by_status given (said (tables_of h.reads) h.are)
   where
     whole : (g : Status) → IsSceneAnswer (tables_of h.reads) room g text → IsOfTables r bytes room g text
-    whole g s = record { reads = h.reads; all = h.size; read = rw (← e) h.read; taken = rw (← t) (h.taken bytes b); said = s }
+    whole g s = record { reads = h.reads; all = h.size; read = rw (← e) h.read; taken = rw (← t) (h.taken bytes b); stood = still; said = s }
 
     by_status : (g : Status) → IsSceneAnswer (tables_of h.reads) room g text → IsReportAnswer r bytes room g text
     by_status status.Done s = whole status.Done s
@@ -153,3 +154,7 @@ pub of_unread : (r : Run) (bytes : List ℕ) (room : Room) (given : Status) (tex
 of_unread r bytes room status.Refused text h = inl h
 of_unread r bytes room status.ReadFault text h = h
 of_unread r bytes room _ text h = absurd (h.unread)
+
+-- the lamps of an accepted room shine by as many tables as it has files
+pub shining_by : (room : Room) (tables : List Table) → IsAccepted room → length tables ≡ length room.files → All (λ l. IsShine (length tables) l.shine) room.lamps
+shining_by room tables accepted count = λ k d l. subst (λ (n : ℕ). IsShine n (slice_index_or room.lamps k d).shine) (sym count) (accepted.each_lamp k d l).shine

@@ -173,7 +173,7 @@ usage_of_no_words : IsAnswer [] (run_of 0 0) status.Usage usage_line
 usage_of_no_words = record { none = refl; text_is = refl }
 
 absent_room : IsAnswer report_words (run_of 1 0) status.Refused (codes "refused room.toml Absent\n")
-absent_room = record { asked = question.Room Report; command = refl; answer = inl (inl (record { text_is = refl; rose = lit≤ tt; told = refl; taken = λ e. cc })) }
+absent_room = record { asked = question.Room Report; command = refl; answer = inl (inl (record { text_is = refl; rose = lit≤ tt; faults = refl; told = refl; taken = λ e. cc })) }
 
 read_fault_of_a_room : IsAnswer report_words (run_of 0 1) status.ReadFault (codes "read fault room.toml\n")
-read_fault_of_a_room = record { asked = question.Room Report; command = refl; answer = inl (record { text_is = refl; rose = lit≤ tt; taken = λ e. cc }) }
+read_fault_of_a_room = record { asked = question.Room Report; command = refl; answer = inl (record { text_is = refl; rose = lit≤ tt; absences = refl; taken = λ e. cc }) }

@@ -4,7 +4,7 @@ use Rattle.lux_io.specs.Files.{bytes_of}
 use Rattle.lux_core.specs.Commands.{question_of, file_name, usage_line}
 use Rattle.lux_core.specs.Photometry.{IsPhotometryAnswer, CanSum}
 use Rattle.lux_core.specs.RoomAnswers.{IsRoomAnswer, CanTell}
-use Rattle.lux_core.specs.Runs.{Run, IsContent, longest_file}
+use Rattle.lux_core.specs.Runs.{Run, HasStood, IsContent, longest_file}
 use Rattle.lux_core.specs.Untaken.{IsUntaken}
 use Rattle.lux_core.specs.declared.status.Status.{Status}
 use Rattle.lux_core.specs.declared.status.Status.TheVariants as status
@@ -15,7 +15,7 @@ use Rattle.lux_core.specs.declared.words.Question.TheVariants as question
 
 abbrev pub IsBytesAnswer : Question → Run → (name bytes : List ℕ) → Status → List ℕ → Type 0
 IsBytesAnswer (question.Room asked) r name bytes given text = IsRoomAnswer asked r bytes given text
-IsBytesAnswer (question.Photometry format) r name bytes given text = (r.taken ≡ length bytes) × IsPhotometryAnswer format name bytes given text
+IsBytesAnswer (question.Photometry format) r name bytes given text = (r.taken ≡ length bytes) × HasStood r × IsPhotometryAnswer format name bytes given text
 
 -- ---- what the name of a file gives
 

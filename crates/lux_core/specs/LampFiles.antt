@@ -5,7 +5,7 @@ use Rattle.direct_light.specs.Shares.{no_table}
 use Rattle.room_layout.specs.declared.room.FileUse.{FileUse}
 use Rattle.lux_core.specs.Commands.{format_of}
 use Rattle.lux_core.specs.Photometry.{IsTableOfFile, IsFileRefusal}
-use Rattle.lux_core.specs.Runs.{Run, IsContent}
+use Rattle.lux_core.specs.Runs.{Run, HasStood, IsContent}
 use Rattle.lux_core.specs.Untaken.{IsUntaken}
 use Rattle.lux_core.specs.declared.status.Status.{Status}
 use Rattle.lux_core.specs.declared.status.Status.TheVariants as status
@@ -48,6 +48,7 @@ pub record IsRefusedFile (r : Run) (file : FileUse) (text : List ℕ) : Type 0 w
   pub bytes : List ℕ
   pub content : IsContent r.files file.name bytes
   pub taken : r.taken ≡ length bytes
+  pub stood : HasStood r
   pub refusal : IsFileRefusal (format_of file.name file.set) file.name bytes text
 
 -- or it can't be taken from the shelf

@@ -1,17 +1,18 @@
 -- What a run may answer to `report` of an accepted room: which text goes with which status, and what was the cause.
-use Rattle.std.specs.Prelude.{ℕ, ◌≡◌, ◌≢◌, ◌⊎◌, List, [], ◌++◌, length, codes, decimal, Some}
+use Rattle.std.specs.Prelude.{ℕ, ◌≡◌, ◌≢◌, ◌⊎◌, List, [], All, ◌++◌, length, codes, decimal, Some}
 use Rattle.decimal_text.specs.Decimals.{thousandths}
 use Rattle.decimal_text.specs.Lines.{line}
 use Rattle.grid_report.specs.Headline.{IsRight}
 use Rattle.grid_report.specs.Printed.{Report, report_text}
 use Rattle.photo_table.specs.Table.{Table}
+use Rattle.room_layout.specs.Accepted.{IsShine}
 use Rattle.room_layout.specs.declared.room.Room.{Room}
 use Rattle.scene_system.specs.Causes.{IsCause, IsWithinLimits}
 use Rattle.scene_system.specs.RowSums.{MayBeHeavy, NoneIsHeavy, IsMild}
 use Rattle.scene_system.specs.declared.fault.SceneFault.{SceneFault}
 use Rattle.scene_system.specs.declared.fault.SceneFault.TheVariants as scene_fault
 use Rattle.lux_core.specs.LampFiles.{LampFile, WereRead, HasUnreadFile, last_bytes, tables_of}
-use Rattle.lux_core.specs.Runs.{Run}
+use Rattle.lux_core.specs.Runs.{Run, HasStood}
 use Rattle.lux_core.specs.declared.status.Status.{Status}
 use Rattle.lux_core.specs.declared.status.Status.TheVariants as status
 
@@ -19,6 +20,8 @@ use Rattle.lux_core.specs.declared.status.Status.TheVariants as status
 
 -- a right report, of a room within its limits that has no heavy row
 pub record IsReport (tables : List Table) (room : Room) (text : List ℕ) : Type 0 where
+  -- each lamp shines by a number of candela, or by one of these tables
+  pub shining : All (λ l. IsShine (length tables) l.shine) room.lamps
   pub within : IsWithinLimits tables room
   pub none_heavy : NoneIsHeavy room
   pub report : Report
@@ -58,7 +61,9 @@ pub record IsOfTables (r : Run) (bytes : List ℕ) (room : Room) (given : Status
   pub reads : List LampFile
   pub all : length reads ≡ length room.files
   pub read : WereRead r.files room.files reads
+  -- the file that was read last is the only one whose number of bytes was counted
   pub taken : r.taken ≡ length (last_bytes bytes reads)
+  pub stood : HasStood r
   pub said : IsSceneAnswer (tables_of reads) room given text
 
 abbrev pub IsReportAnswer : Run → (bytes : List ℕ) → Room → Status → List ℕ → Type 0

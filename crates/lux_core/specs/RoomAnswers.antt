@@ -9,7 +9,7 @@ use Rattle.room_layout.specs.declared.fault.RoomFault.TheVariants as room_fault
 use Rattle.room_layout.specs.declared.room.Room.{Room}
 use Rattle.sight_line.specs.Sight.{IsFirstMet, NoneMet}
 use Rattle.lux_core.specs.ReportAnswers.{IsReportAnswer, CanReport}
-use Rattle.lux_core.specs.Runs.{Run}
+use Rattle.lux_core.specs.Runs.{Run, HasStood}
 use Rattle.lux_core.specs.declared.status.Status.{Status}
 use Rattle.lux_core.specs.declared.status.Status.TheVariants as status
 use Rattle.lux_core.specs.declared.words.RoomQuestion.{RoomQuestion}
@@ -36,7 +36,7 @@ IsSightAnswer p q room _ text = ⊥
 
 abbrev pub IsSaidOf : RoomQuestion → Run → (bytes : List ℕ) → Room → Status → List ℕ → Type 0
 IsSaidOf question.Report r bytes room given text = IsReportAnswer r bytes room given text
-IsSaidOf (question.Sight p q) r bytes room given text = (r.taken ≡ length bytes) × IsSightAnswer (place_of p) (place_of q) room given text
+IsSaidOf (question.Sight p q) r bytes room given text = (r.taken ≡ length bytes) × HasStood r × IsSightAnswer (place_of p) (place_of q) room given text
 
 -- ---- what the bytes of a room file give
 
@@ -49,6 +49,7 @@ pub record IsOfRoom (asked : RoomQuestion) (r : Run) (bytes : List ℕ) (given :
 -- the layout is refused
 pub record IsRoomFault (r : Run) (bytes text : List ℕ) : Type 0 where
   pub taken : r.taken ≡ length bytes
+  pub stood : HasStood r
   pub fault : RoomFault
   pub refused : built_room_of bytes ≡ Err fault
   pub no_want : fault ≢ room_fault.Memory

@@ -24,6 +24,11 @@ run files absences_before absences_now faults_before faults_now taken = record {
   taken = taken;
 }
 
+-- no file was missed in the run, and the shelf didn't fail
+pub record HasStood (r : Run) : Type 0 where
+  pub absences : r.absences.now ≡ r.absences.before
+  pub faults : r.faults.now ≡ r.faults.before
+
 -- the greatest number of bytes of a file
 abbrev pub longest_file : ℕ
 longest_file = 16777216

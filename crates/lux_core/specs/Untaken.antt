@@ -4,7 +4,7 @@ use Rattle.decimal_text.specs.Lines.{line}
 use Rattle.lux_io.specs.Files.{bytes_of, Rose}
 use Rattle.lux_io.specs.declared.take.TakeFault.{TakeFault}
 use Rattle.lux_io.specs.declared.take.TakeFault.TheVariants as take
-use Rattle.lux_core.specs.Runs.{Run, longest_file}
+use Rattle.lux_core.specs.Runs.{Run, HasStood, longest_file}
 use Rattle.lux_core.specs.declared.status.Status.{Status}
 use Rattle.lux_core.specs.declared.status.Status.TheVariants as status
 
@@ -12,6 +12,7 @@ use Rattle.lux_core.specs.declared.status.Status.TheVariants as status
 pub record IsAbsent (r : Run) (name text : List ℕ) : Type 0 where
   pub text_is : text ≡ line (codes "refused " ++ name ++ codes " Absent")
   pub rose : Rose r.absences.before r.absences.now
+  pub faults : r.faults.now ≡ r.faults.before
   pub told : IfSome r.files (λ files. bytes_of name files ≡ None)
   pub taken : r.taken ≢ longest_file + 1
 
@@ -19,12 +20,14 @@ pub record IsAbsent (r : Run) (name text : List ℕ) : Type 0 where
 pub record IsTooLong (r : Run) (name text : List ℕ) : Type 0 where
   pub text_is : text ≡ line (codes "refused " ++ name ++ codes " TooLong")
   pub taken : r.taken ≡ longest_file + 1
+  pub stood : HasStood r
   pub told : IfSome r.files (λ files. IsSomeAnd (bytes_of name files) (λ bytes. longest_file < length bytes))
 
 -- the file couldn't be read
 pub record IsReadFault (r : Run) (name text : List ℕ) : Type 0 where
   pub text_is : text ≡ line (codes "read fault " ++ name)
   pub rose : Rose r.faults.before r.faults.now
+  pub absences : r.absences.now ≡ r.absences.before
   pub taken : r.taken ≢ longest_file + 1
 
 abbrev pub IsUntaken : Run → (name : List ℕ) → Status → List ℕ → Type 0

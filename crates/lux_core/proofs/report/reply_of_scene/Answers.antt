@@ -1,6 +1,7 @@
 use Rattle.std.proofs.Common.{inr}
 use Rattle.scene_system.specs.Assembled.{numbers}
 use Rattle.scene_system.specs.RowSums.{in_thousandths}
+use Rattle.lux_core.proofs.LampLists.{shining_by}
 use Rattle.lux_core.proofs.report.reply_of_scene.Goals as goal
 
 pub returns-in_ok-text-in-Ok : goal.returns-in_ok-text-in-Ok
@@ -8,6 +9,7 @@ returns-in_ok-text-in-Ok c = λ tables exact within scene.
     let r = c.requires in
     let h = c.in_ok-text-in-Ok.ensures tables exact scene in
     record {
+      shining = shining_by c.args.room.now tables r.accepted exact.count;
       within = within;
       none_heavy = c.none_is_shown_heavy.ensures c.args.room.now (numbers c.args.scene.now) r.accepted r.formed r.weights c.in-Ok.ensures.none_heavy;
       report = h.0;
