@@ -6,7 +6,7 @@ use Rattle.std.specs.Prelude.{Option, Some, None, IfSome, IfNone, MatchOption}
 use Rattle.std.specs.Option.{option_map}
 use Rattle.grid_report.specs.Printed.{Printed, point_line, point_lines}
 use Rattle.grid_report.specs.Sums.{average_low, IsUniformity}
-use Rattle.grid_report.specs.Reports.{in_thousandths, printed_value}
+use Rattle.grid_report.specs.Reports.{printed_ratio, printed_value}
 use Rattle.grid_report.specs.declared.value.Ratio.{Ratio}
 use Rattle.grid_report.specs.declared.value.PointValue.{PointValue}
 
@@ -46,6 +46,6 @@ lines_end columns values k j text e so_far =
 
 -- the uniformity as it is printed
 pub uniformity_matches : (values : List PointValue) (o : Option Ratio) → IfNone o (average_low values ≡ 0) → IfSome o (λ u. IsUniformity values u.lo u.hi)
-    → MatchOption (option_map in_thousandths o) (average_low values ≡ 0) (λ (e : Printed). (u : Ratio) × IsUniformity values u.lo u.hi × (e ≡ in_thousandths u))
+    → MatchOption (option_map printed_ratio o) (average_low values ≡ 0) (λ (e : Printed). (u : Ratio) × IsUniformity values u.lo u.hi × (e ≡ printed_ratio u))
 uniformity_matches values None none some = none
 uniformity_matches values (Some u) none some = (u, some, refl)

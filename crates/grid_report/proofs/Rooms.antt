@@ -19,7 +19,7 @@ use Rattle.grid_report.specs.Headline.{least_end, IsInOrder, Fits, MeetsValues, 
 use Rattle.grid_report.specs.RoomValues.{ForExactValues, ForLooseValues}
 use Rattle.grid_report.specs.Printed.{Printed, Report, said}
 use Rattle.grid_report.specs.PointValues.{ArePoints}
-use Rattle.grid_report.specs.Reports.{in_cents, in_thousandths, printed_value, IsReportOf}
+use Rattle.grid_report.specs.Reports.{in_cents, printed_ratio, printed_value, IsReportOf}
 use Rattle.grid_report.specs.Sums.{lower_end, upper_end, open_total, average_low, average_high, IsLeast, IsUniformity, IsValue}
 use Rattle.grid_report.specs.declared.value.PointValue.{PointValue}
 use Rattle.grid_report.specs.declared.value.Ratio.{Ratio}
@@ -119,7 +119,7 @@ points_near tables room vs are g =
 
 -- a printed uniformity is of the least ends and the average's ends
 abbrev IsPrintedUniformity : List PointValue → Printed → Type 0
-IsPrintedUniformity vs e = (u : Ratio) × IsUniformity vs u.lo u.hi × (e ≡ in_thousandths u)
+IsPrintedUniformity vs e = (u : Ratio) × IsUniformity vs u.lo u.hi × (e ≡ printed_ratio u)
 
 record IsShare (vs : List PointValue) (e : Printed) : Type 0 where
   pub a : ℕ

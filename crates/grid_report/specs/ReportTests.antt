@@ -7,7 +7,7 @@ use Rattle.interval_system.specs.Values.{Grid, open_count, open_sum, mean, least
 use Rattle.fx_base.specs.Rounded.{down_to, up_to}
 use Rattle.grid_report.specs.Headline.{least_end}
 use Rattle.grid_report.specs.Printed.{Printed, point_lines, report_text}
-use Rattle.grid_report.specs.Reports.{in_cents, in_thousandths, printed_value}
+use Rattle.grid_report.specs.Reports.{in_cents, printed_ratio, printed_value}
 use Rattle.interval_system.specs.Sent.{sent_low, sent_high}
 use Rattle.grid_report.specs.Sums.{average_low, average_high}
 use Rattle.grid_report.specs.declared.value.PointValue.{PointValue}
@@ -44,7 +44,7 @@ average_of_values : (average_low values == 15 && average_high values == 18) ≡ 
 average_of_values = refl
 
 -- millionths in thousandths
-thousandths_outward : in_thousandths (record { lo = 9239; hi = 246092 }) ≡ record { lo = 9; hi = 247 }
+thousandths_outward : printed_ratio (record { lo = 9239; hi = 246092 }) ≡ record { lo = 9; hi = 247 }
 thousandths_outward = refl
 
 -- ---- texts

@@ -16,11 +16,11 @@ abbrev pub printed_value : PointValue → Option Printed
 printed_value v = if v.covered then None else Some (in_cents (natural v.value.lo) (natural v.value.hi))
 
 -- millionths in thousandths, rounded down and up
-abbrev pub in_thousandths : Ratio → Printed
-in_thousandths u = record { lo = u.lo / 1000; hi = div_ceil u.hi 1000 }
+abbrev pub printed_ratio : Ratio → Printed
+printed_ratio u = record { lo = u.lo / 1000; hi = div_ceil u.hi 1000 }
 
 pub record IsReportOf (columns : ℕ) (values : List PointValue) (r : Report) : Type 0 where
   pub columns_are : r.columns ≡ columns
   pub points_are : r.points ≡ map printed_value values
   pub average_is : r.average ≡ in_cents (average_low values) (average_high values)
-  pub uniformity_is : MatchOption r.uniformity (average_low values ≡ 0) (λ e. (u : Ratio) × IsUniformity values u.lo u.hi × (e ≡ in_thousandths u))
+  pub uniformity_is : MatchOption r.uniformity (average_low values ≡ 0) (λ e. (u : Ratio) × IsUniformity values u.lo u.hi × (e ≡ printed_ratio u))

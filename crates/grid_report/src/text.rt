@@ -4,7 +4,7 @@ ghost use Rattle.std.specs.Option.{option_map};
 ghost use Rattle.decimal_text.specs.Decimals.{hundredths, thousandths};
 ghost use Rattle.decimal_text.specs.Lines.{line};
 ghost use Rattle.grid_report.specs.Printed.{point_line, point_lines, report_text, uniformity_text, value_text, Report};
-ghost use Rattle.grid_report.specs.Reports.{in_cents, in_thousandths, printed_value, IsReportOf};
+ghost use Rattle.grid_report.specs.Reports.{in_cents, printed_ratio, printed_value, IsReportOf};
 ghost use Rattle.grid_report.specs.Sums.{average_high, average_low, open_total, IsUniformity, IsValue};
 
 use crate::sums::{average, uniformity};
@@ -87,7 +87,7 @@ fn line_of_average(alloc: Global, values: &[PointValue]) -> Result<String, Memor
 
 /// The line of the uniformity.
 fn line_of_uniformity(alloc: Global, ratio: Option<Ratio>) -> Result<String, Memory>
-    ensures { IfOk result (λ s. string_bytes s ≡ line (codes "uniformity " ++ uniformity_text (option_map in_thousandths ratio))) }
+    ensures { IfOk result (λ s. string_bytes s ≡ line (codes "uniformity " ++ uniformity_text (option_map printed_ratio ratio))) }
 {
     let Some(ratio) = ratio else {
         let text = String::from_str(alloc, "uniformity none\n")?;

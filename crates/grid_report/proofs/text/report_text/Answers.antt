@@ -1,6 +1,6 @@
 use Rattle.std.proofs.Common.{map, refl}
 use Rattle.std.specs.Option.{option_map}
-use Rattle.grid_report.specs.Reports.{in_cents, in_thousandths, printed_value}
+use Rattle.grid_report.specs.Reports.{in_cents, printed_ratio, printed_value}
 use Rattle.grid_report.specs.Sums.{average_low, average_high}
 use Rattle.grid_report.proofs.Lines.{uniformity_matches}
 use Rattle.grid_report.proofs.text.report_text.Goals as goal
@@ -11,7 +11,7 @@ returns c = (
     columns = c.args.nx;
     points = map printed_value c.args.values.now;
     average = in_cents (average_low c.args.values.now) (average_high c.args.values.now);
-    uniformity = option_map in_thousandths c.uniformity-ratio.result;
+    uniformity = option_map printed_ratio c.uniformity-ratio.result;
   },
   record {
     columns_are = refl;
