@@ -14,6 +14,7 @@ pub struct PiEnds {
     pub hi: u128,
 }
 
+/// Both ends of pi, next to each other.
 pub fn pi_ends() -> PiEnds
     ensures low { (n : ℕ) → ticks result.lo ≤ᶠ (pi n).hi }
     ensures high { (n : ℕ) → (pi n).lo ≤ᶠ ticks result.hi }

@@ -1,3 +1,4 @@
+//! A row of weights.
 ghost use Rattle.std.specs.Prelude.{◌≡◌, ℕ, ◌+◌, ◌<◌, ◌≤◌, ◌^◌, ◌↔◌, IsTrue, List, All, length, replicate, slice_index_or, slice_set, IfOk};
 ghost use Rattle.interval_system.specs.System.{IsWeight, IsRow, no_weight, upper_total};
 ghost use Rattle.interval_system.specs.Sent.{sent_low, sent_high};

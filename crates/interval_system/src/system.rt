@@ -1,3 +1,4 @@
+//! A system of radiosity equations in intervals: a square of weights, and the direct light of each row.
 ghost use Rattle.std.specs.Prelude.{◌≡◌, ℕ, ◌+◌, ◌<◌, ◌≤◌, List, [], length, replicate, slice_index_or, slice_set, IfOk, MatchOption, All};
 ghost use Rattle.interval_system.specs.System.{IsWeight, IsDirectLight, IsInLightRange, IsRow, IsSystem, no_weight, no_light, weight_at, direct_at, upper_total, NoneHeavy, IsFirstHeavy};
 

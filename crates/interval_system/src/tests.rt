@@ -1,3 +1,4 @@
+//! Systems and rows hold what was put in; their sums and the light that they send, worked out by hand.
 ghost use Rattle.std.specs.Prelude.{◌≡◌, ℕ, ◌<◌, ◌≤◌, ◌^◌, length};
 
 use crate::{Heavy, IntervalSystem, Row};

@@ -1,3 +1,4 @@
+//! Bounds of the light of each patch.
 ghost use Rattle.std.specs.Prelude.{◌≡◌, ◌^◌, All, IfOk, IfErr, length, pos, replicate};
 ghost use Rattle.fx_base.specs.Bound.{IsEnd};
 ghost use Rattle.interval_system.specs.System.{NoneHeavy};

@@ -1,3 +1,4 @@
+//! Why a system has no bounds.
 use interval_system::Heavy;
 use std::alloc::AllocError;
 

@@ -1,3 +1,4 @@
+//! Bounds of small systems, against their solutions worked out by hand.
 ghost use Rattle.std.specs.Prelude.{◌≡◌, ℕ, ◌+◌, ◌<◌, ◌≤◌, ◌^◌, length, IfOk};
 ghost use Rattle.interval_system.specs.System.{IsWeight};
 

@@ -57,6 +57,7 @@ impl Name {
         Ok(Name { text })
     }
 
+    /// The text.
     pub fn text(&self) -> &str
         ensures { result.now ≡ self.now }
     {
@@ -129,24 +130,28 @@ impl<T> Model for Listed<T> {
 }
 
 impl<T> Listed<T> {
+    /// The list of these, in their order.
     pub fn from_vec(values: Vec<T>) -> Listed<T>
         ensures { result ≡ values.items }
     {
         Listed { kept: values }
     }
 
+    /// What it lists, in order.
     pub fn into_vec(self) -> Vec<T>
         ensures { result.items ≡ self }
     {
         self.kept
     }
 
+    /// What it lists, in order, without taking it away.
     pub fn as_slice(&self) -> &[T]
         ensures { result.now ≡ self.now }
     {
         self.kept.as_slice()
     }
 
+    /// How many it lists.
     pub fn len(&self) -> usize
         ensures { result ≡ length self.now }
     {

@@ -4,6 +4,7 @@ ghost use Rattle.room_layout.specs.Layout.{size_from, reflects_from, fits_in, is
 
 use crate::{Reflects, Size};
 
+/// The size along x, y and z, in mm.
 pub fn size_from(numbers: [u32; 3]) -> Size
     ensures { result ≡ size_from numbers }
 {
@@ -14,6 +15,7 @@ pub fn size_from(numbers: [u32; 3]) -> Size
     }
 }
 
+/// The reflectances of floor, ceiling, and the walls at either end of x and of y, in thousandths.
 pub fn reflects_from(numbers: [u32; 6]) -> Reflects
     requires { (k : ℕ) → k < 6 → slice_index numbers k ≤ 950 }
     ensures { result ≡ reflects_from numbers }

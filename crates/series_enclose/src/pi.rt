@@ -6,9 +6,10 @@ ghost use Rattle.series_enclose.specs.Series.{pi};
 
 use fx_base::{Span, tick_of};
 
-/// The ticks next below and next above pi.
+/// The tick next below pi.
 pub const PI_LOW: u64 = 215_888_603_272;
 
+/// The tick next above pi.
 pub const PI_HIGH: u64 = 215_888_603_273;
 
 /// Pi, to one tick. It meets, at every depth, what the first terms of Machin's formula `16 arctan(1/5) - 4 arctan(1/239)` enclose.

@@ -8,27 +8,27 @@ use fx_base::{Memory, Micro, Span};
 use std::alloc::Global;
 
 #[derive(Clone, Copy)]
-struct Row {
+struct SineRow {
     sin: Span,
     cos: Span,
 }
 
-fn row_at(k: usize) -> Row
+fn row_at(k: usize) -> SineRow
     requires { k < 2881 }
     ensures { IsRow k result.sin result.cos }
 {
     let angle = Micro(k as i64 * TangentTable::STEP as i64);
-    Row {
+    SineRow {
         sin: sin_span(angle),
         cos: cos_span(angle),
     }
 }
 
-fn all_rows(alloc: Global) -> Result<Vec<Row>, Memory>
+fn all_rows(alloc: Global) -> Result<Vec<SineRow>, Memory>
     ensures size { IfOk result (λ rows. vec_len rows ≡ 2881) }
     ensures sound { IfOk result (λ rows. IsTable rows.items) }
 {
-    let mut rows: Vec<Row> = Vec::new(alloc);
+    let mut rows: Vec<SineRow> = Vec::new(alloc);
     for k in 0..TangentTable::ROWS {
         rows.push(row_at(k))?;
     }
@@ -38,7 +38,7 @@ fn all_rows(alloc: Global) -> Result<Vec<Row>, Memory>
 /// The sines and cosines of the multiples of 15,625 millionths of a degree, from 0 to 45 degrees.
 #[derive(Drop)]
 pub struct TangentTable {
-    rows: Vec<Row>,
+    rows: Vec<SineRow>,
     ghost size: { length rows.items ≡ 2881 },
     ghost sound: { IsTable rows.items },
 }

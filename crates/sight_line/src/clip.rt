@@ -4,17 +4,17 @@ ghost use Rattle.room_layout.specs.Positions.{place_at};
 ghost use Rattle.sight_line.specs.Sight.{DividesWithin};
 ghost use Rattle.sight_line.specs.Clip.{IsInside, Narrows, IsOpen, IsLeft, IsWithin};
 
-use crate::window::{Ratio, Side, WHOLE, Window};
+use crate::window::{Side, WHOLE, WeightRatio, Window};
 use room_layout::{Block, Position};
 
-fn is_less(a: Ratio, b: Ratio) -> bool
+fn is_less(a: WeightRatio, b: WeightRatio) -> bool
     ensures { IsTrue result ↔ (a.over * b.under < b.over * a.under) }
 {
     a.over * b.under < b.over * a.under
 }
 
 /// The greater of two bounds from below, of which the second has a ratio.
-fn greater(bound: Ratio, other: Ratio) -> Ratio
+fn greater(bound: WeightRatio, other: WeightRatio) -> WeightRatio
     requires { 0 < other.under }
     ensures { (r s : ℕ) → (r * result.over < s * result.under)
         ↔ ((r * bound.over < s * bound.under) × (r * other.over < s * other.under)) }
@@ -23,7 +23,7 @@ fn greater(bound: Ratio, other: Ratio) -> Ratio
 }
 
 /// The lesser of two bounds from above, of which the second isn't 0.
-fn lesser(bound: Ratio, other: Ratio) -> Ratio
+fn lesser(bound: WeightRatio, other: WeightRatio) -> WeightRatio
     requires { 0 < other.over }
     ensures { (r s : ℕ) → (s * result.under < r * result.over)
         ↔ ((s * bound.under < r * bound.over) × (s * other.under < r * other.over)) }
@@ -39,7 +39,7 @@ fn inside(window: Window, side: Side) -> Option<Window>
         if side.to_in > 0 {
             Some(window)
         } else {
-            let leaving = Ratio {
+            let leaving = WeightRatio {
                 over: side.from_in,
                 under: side.to_out,
             };
@@ -49,7 +49,7 @@ fn inside(window: Window, side: Side) -> Option<Window>
             })
         }
     } else if side.to_in > 0 {
-        let entering = Ratio {
+        let entering = WeightRatio {
             over: side.from_out,
             under: side.to_in,
         };

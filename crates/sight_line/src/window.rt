@@ -6,7 +6,7 @@ ghost use Rattle.std.specs.Prelude.{◌≡◌, ◌+◌, ◌<◌, ◌≤◌};
 /// The ratio of the weight at the end of a segment to the weight at its start, as `over` to `under`. A product of two such numbers is at
 /// most 4 * 10^10, which 32 bits don't hold.
 #[derive(Clone, Copy)]
-pub struct Ratio {
+pub struct WeightRatio {
     pub over: u64,
     pub under: u64,
     ghost small_over: { over ≤ 200000 },
@@ -16,8 +16,8 @@ pub struct Ratio {
 /// The points whose ratio lies strictly between two bounds: `above` the first and `below` the second. Every ratio is below 1 to 0.
 #[derive(Clone, Copy)]
 pub struct Window {
-    pub above: Ratio,
-    pub below: Ratio,
+    pub above: WeightRatio,
+    pub below: WeightRatio,
 }
 
 /// How far the two ends of a segment lie inside a face of a box and how far outside, in half millimetres. Where they lie on different
@@ -36,6 +36,6 @@ pub struct Side {
 
 /// The whole segment without its ends.
 pub const WHOLE: Window = Window {
-    above: Ratio { over: 0, under: 1 },
-    below: Ratio { over: 1, under: 0 },
+    above: WeightRatio { over: 0, under: 1 },
+    below: WeightRatio { over: 1, under: 0 },
 };
