@@ -145,14 +145,6 @@ same_ticks photos tables l (File k) are e = rw e (same_greatest photos tables k 
 pub same_total : (photos tables : List Table) (room : Room) → AreTablesOf photos tables → total_ticks photos room ≡ total_ticks tables room
 same_total photos tables room are = same_sum (ticks_of photos) (ticks_of tables) room.lamps (λ l. same_ticks photos tables l l.shine are refl)
 
-pub limit_passed : (photos tables : List Table) (room : Room) (total : ℕ) → total ≡ total_ticks photos room → AreTablesOf photos tables → greatest_total < total
-    → greatest_total < total_ticks tables room
-limit_passed photos tables room total e are h = subst (λ (n : ℕ). greatest_total < n) (e ∙ same_total photos tables room are) h
-
-pub limit_kept : (photos tables : List Table) (room : Room) (total : ℕ) → total ≡ total_ticks photos room → AreTablesOf photos tables → total ≤ greatest_total
-    → total_ticks tables room ≤ greatest_total
-limit_kept photos tables room total e are h = subst (λ (n : ℕ). n ≤ greatest_total) (e ∙ same_total photos tables room are) h
-
 pub exact_tables : (room : Room) (photos tables : List Table) → length photos ≡ length room.files → AreKept photos → AreTablesOf photos tables → AreExactTables room tables
 exact_tables room photos tables count kept are =
     let c = are.count in

@@ -7,6 +7,8 @@ use Rattle.room_layout.specs.declared.room.Room.{Room}
 use Rattle.photo_table.specs.Exact.{ticks_above}
 use Rattle.photo_table.specs.Table.{Table}
 use Rattle.patch_mesh.specs.TaskPoints.{task_points}
+use Rattle.patch_mesh.specs.declared.patch.MeshFault.{MeshFault}
+use Rattle.patch_mesh.specs.declared.patch.MeshFault.TheVariants as mesh
 use Rattle.direct_light.specs.Shares.{table_at}
 use Rattle.scene_system.specs.Assembled.{open_points}
 use Rattle.scene_system.specs.Scene.{patch_count}
@@ -26,7 +28,7 @@ upper_ticks i = ticks_above i.hi
 abbrev pub greatest_ticks : Table → ℕ
 greatest_ticks t = greatest_of (map upper_ticks t.values)
 
--- the lamp's number of candela, or the greatest of its file's table
+-- the lamp's number of candela, or the greatest of its file's table; in an accepted room a lamp's file number is below the number of files
 abbrev pub ticks_of : List Table → Lamp → ℕ
 ticks_of tables l = elim l.shine [ Even candela ↦ candela * 68719476736 | File k ↦ greatest_ticks (table_at tables k) ]
 
@@ -55,3 +57,8 @@ IsCause tables room TotalIntensity = greatest_total < total_ticks tables room
 IsCause tables room (TooManyPatches count) = (total_ticks tables room ≤ greatest_total) × (most_patches < patch_count room) × (count ≡ patch_count room)
 IsCause tables room NoTaskPoint = (total_ticks tables room ≤ greatest_total) × (patch_count room ≤ most_patches) × (open_points (task_points room) ≡ 0)
 IsCause tables room Memory = Unit {0}
+
+-- what a fault of the patches is to the scene
+abbrev pub fault_of_mesh : MeshFault → SceneFault
+fault_of_mesh (mesh.TooManyPatches count) = TooManyPatches count
+fault_of_mesh mesh.Memory = Memory

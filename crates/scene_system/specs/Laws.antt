@@ -1,11 +1,12 @@
--- What holds of the enclosures of a room at every depth.
-use Rattle.std.specs.Prelude.{ℕ, ◌<◌, List}
+-- What holds of the enclosures of a room at every depth, and of the greatest intensities of its lamps.
+use Rattle.std.specs.Prelude.{ℕ, ◌<◌, ◌≡◌, List}
 use Rattle.fx_base.specs.Interval.{InOrder}
 use Rattle.interval_system.specs.Radiosity.{Radiosity}
 use Rattle.room_layout.specs.Accepted.{IsAccepted}
 use Rattle.room_layout.specs.declared.room.Room.{Room}
 use Rattle.photo_table.specs.Table.{Table}
-use Rattle.scene_system.specs.Tables.{AreExactTables}
+use Rattle.scene_system.specs.Causes.{total_ticks}
+use Rattle.scene_system.specs.Tables.{AreExactTables, AreTablesOf}
 use Rattle.scene_system.specs.Scene.{radiosity, loose_radiosity}
 
 -- no coefficient and no direct light has a lower end above its upper end
@@ -19,3 +20,7 @@ pub record HasEndsInOrder (s : Radiosity) : Type 0 where
 abbrev pub RadiosityIsInOrder : Type 0
 RadiosityIsInOrder = (n : ℕ) (tables : List Table) (room : Room) → IsAccepted room → AreExactTables room tables
     → HasEndsInOrder (radiosity n tables room) × HasEndsInOrder (loose_radiosity n tables room)
+
+-- the greatest intensities of all lamps add up to as many ticks by the program's tables as by the exact ones
+abbrev pub TotalIsOfTables : Type 0
+TotalIsOfTables = (photos tables : List Table) (room : Room) → AreTablesOf photos tables → total_ticks photos room ≡ total_ticks tables room

@@ -20,6 +20,7 @@ use Rattle.patch_mesh.specs.Surfaces.{surfaces}
 use Rattle.patch_mesh.specs.Patches.{tiling_of, patch_at, row_patches, whole_row, first_rows, tiling_patches, tilings, patches}
 use Rattle.patch_mesh.specs.TaskPoints.{task_point, row_points, task_points}
 use Rattle.patch_mesh.specs.TaskPoints as points
+use Rattle.patch_mesh.specs.declared.patch.MeshFault.TheVariants as mesh
 use Rattle.form_factor.specs.Coefficient.{kernel, fronts, coefficient}
 use Rattle.angle_bracket.specs.Direction.{less_angle, plus_angle, quarter_angle, in_quarter, angle_c, less_turn, brought, direction_c, direction_gamma}
 use Rattle.photo_table.specs.Angles.{turn_later}
@@ -32,9 +33,9 @@ use Rattle.direct_light.specs.Shares.{falloff, share_of, loosened}
 use Rattle.scene_system.specs.Light.{is_clear, light_of_points, loose_light_of_points, light_of_first, loose_light_of_first, direct_light, loose_direct_light}
 use Rattle.scene_system.specs.Scene.{patch_count, patch_place, patch_face, task_point_place, radiosity, loose_radiosity}
 use Rattle.scene_system.specs.Assembled.{open_points}
-use Rattle.scene_system.specs.Causes.{greatest_of, greatest_total, ticks_of, total_ticks, IsCause, IsWithinLimits}
+use Rattle.scene_system.specs.Causes.{greatest_of, fault_of_mesh, greatest_total, ticks_of, total_ticks, IsCause, IsWithinLimits}
 use Rattle.scene_system.specs.RowSums.{row_sum, slack, in_thousandths}
-use Rattle.scene_system.specs.declared.fault.SceneFault.TheVariants.{TotalIntensity, NoTaskPoint}
+use Rattle.scene_system.specs.declared.fault.SceneFault.TheVariants.{TotalIntensity, TooManyPatches, NoTaskPoint, Memory}
 
 -- fractions, roots, places and lamps
 unfoldable of_light : Unit {0}
@@ -182,6 +183,12 @@ no_task_point = (lit≤ tt, lit≤ tt, refl)
 cube_within : IsWithinLimits [] cube
 unfolding of_mesh
 cube_within = record { dim = lit≤ tt; few = lit≤ tt; some_open = lit< tt }
+
+too_many_patches : fault_of_mesh (mesh.TooManyPatches 2049) ≡ TooManyPatches 2049
+too_many_patches = refl
+
+no_memory : fault_of_mesh mesh.Memory ≡ Memory
+no_memory = refl
 
 -- ---- the scene of the cube
 

@@ -15,7 +15,7 @@ use crate::scene::Scene;
 use crate::weights::{patch_rows, point_rows};
 use fx_base::Memory;
 use interval_system::IntervalSystem;
-use patch_mesh::{MeshFault, Patch, TaskPoint, mesh, task_points};
+use patch_mesh::{Patch, TaskPoint, mesh, task_points};
 use photo_table::PhotoTable;
 use room_layout::Room;
 use series_enclose::TangentTable;
@@ -63,7 +63,7 @@ fn scene_of(
 }
 
 /// The scene of a room, where `photos` are the tables of its files, in their order. Its weights and its light meet the exact ones at
-/// every depth, whichever exact tables were rounded to `photos`.
+/// every depth, whichever exact tables were rounded to `photos`. The limits and the causes of a refusal are told by `photos` themselves.
 #[tactic(auto, using(crate::proofs::Rows::near_weights))]
 pub fn assemble(
     alloc: Global,
@@ -78,31 +78,19 @@ pub fn assemble(
     ensures weights { IfOk result (λ s. HasWeightsOf room.now (numbers s)) }
     ensures near { IfOk result (λ s. HasNearWeights room.now (numbers s)) }
     ensures formed { IfOk result (λ s. IsWellFormed (numbers s)) }
-    ensures within { (tables : List Table) → AreTablesOf photos.now tables → IfOk result (λ _. IsWithinLimits tables room.now) }
-    ensures refused { (tables : List Table) → AreTablesOf photos.now tables → IfErr result (λ fault. IsCause tables room.now fault) }
+    ensures within { IfOk result (λ _. IsWithinLimits photos.now room.now) }
+    ensures refused { IfErr result (λ fault. IsCause photos.now room.now fault) }
 {
-    let total = match total_ticks(alloc, room, photos) {
-        Ok(total) => total,
-        Err(_) => return Err(SceneFault::Memory),
-    };
+    let total = total_ticks(alloc, room, photos)?;
     let too_bright = total > GREATEST_TOTAL;
     if too_bright {
         return Err(SceneFault::TotalIntensity);
     }
-    let patches = match mesh(alloc, room) {
-        Ok(patches) => patches,
-        Err(MeshFault::TooManyPatches(count)) => return Err(SceneFault::TooManyPatches(count)),
-        Err(MeshFault::Memory) => return Err(SceneFault::Memory),
-    };
-    let points = match task_points(alloc, room) {
-        Ok(points) => points,
-        Err(_) => return Err(SceneFault::Memory),
-    };
+    let patches = mesh(alloc, room)?;
+    let points = task_points(alloc, room)?;
     if open_points(points.as_slice()) == 0 {
         return Err(SceneFault::NoTaskPoint);
     }
-    match scene_of(alloc, table, room, photos, patches, points) {
-        Ok(scene) => Ok(scene),
-        Err(_) => Err(SceneFault::Memory),
-    }
+    let scene = scene_of(alloc, table, room, photos, patches, points)?;
+    Ok(scene)
 }

@@ -1,5 +1,5 @@
 //! What holds of the definitions in `specs/`, each as the contract of a function that does nothing.
-ghost use Rattle.scene_system.specs.Laws.{RadiosityIsInOrder};
+ghost use Rattle.scene_system.specs.Laws.{RadiosityIsInOrder, TotalIsOfTables};
 ghost use Rattle.scene_system.specs.RowSums.{HeavyHasCause, MildIsServed, NoneIsShownHeavy, RowsStayBelowOne};
 
 /// The enclosures of the coefficients and of the direct light of an accepted room whose files have exact tables aren't empty, at any
@@ -29,4 +29,9 @@ pub fn mild_is_served()
 /// in the exact and in the loose form.
 pub fn rows_stay_below_one()
     ensures { RowsStayBelowOne }
+{}
+
+/// The greatest intensities of all lamps add up to as many ticks by the program's tables as by the exact ones that were rounded to them.
+pub fn total_is_of_tables()
+    ensures { TotalIsOfTables }
 {}

@@ -15,10 +15,9 @@ ghost use Rattle.scene_system.specs.Tables.{AreKept};
 use crate::points::LampPoints;
 use crate::sight::is_clear;
 use direct_light::{direct, even_light};
-use form_factor::{in_front, position_of};
 use fx_base::Span;
 use photo_table::PhotoTable;
-use room_layout::{Face, Lamp, Point, Room, Shine};
+use room_layout::{Face, Lamp, Point, Room, Shine, in_front, position_of};
 use series_enclose::TangentTable;
 
 /// The light of a lamp's point `from` on a plane with this face at a point, where no box stands between.

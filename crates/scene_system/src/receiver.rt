@@ -1,10 +1,9 @@
 //! What patches light: one of them, or a task point.
-ghost use Rattle.std.specs.Prelude.{◌≡◌};
+ghost use Rattle.std.specs.Prelude.{◌≡◌, true};
 ghost use Rattle.room_layout.specs.Place.{place_of};
 ghost use Rattle.patch_mesh.specs.Bounds.{IsPatchIn, IsPointIn, largest_room};
 ghost use Rattle.form_factor.specs.Weights.{IsCoefficient};
 ghost use Rattle.scene_system.specs.Receivers.{face_lit, place_lit, IsReceiverIn};
-ghost use Rattle.std.specs.Prelude.{true};
 
 use form_factor::{factor, point_factor};
 use fx_base::Weight;
