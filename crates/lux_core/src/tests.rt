@@ -1,11 +1,14 @@
 //! Whole runs over the files and the output that stand in for the real ones.
 mod faults;
+mod lamp_files;
 mod lamps;
 mod luminaires;
+mod office;
 mod panel;
 mod reads;
 mod refusals;
 mod reports;
+mod rooms;
 mod sights;
 mod untold;
 

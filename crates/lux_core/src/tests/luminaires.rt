@@ -22,6 +22,21 @@ pub const BRIGHTER: &str = "\
 -\n-\n1\n1\n-\n2\n-\n-\n-\n-\n-\n-\n-\n-\n-\n-\n-\n-\n-\n-\n-\n-\n-\n1\n-\n1\n1\nLED\n1000\n-\n-\n-\n-\n-\n-\n-\n-\n-\n\
 -\n-\n-\n-\n0\n0\n180\n9999999.000001\n9999999\n";
 
+/// 3,333,333.3 cd in all directions.
+pub const THIRD: &str = "\
+-\n-\n1\n1\n-\n2\n-\n-\n-\n-\n-\n-\n-\n-\n-\n-\n-\n-\n-\n-\n-\n-\n-\n1\n-\n1\n1\nLED\n1000\n-\n-\n-\n-\n-\n-\n-\n-\n-\n\
+-\n-\n-\n-\n0\n0\n180\n3333333.3\n3333333.3\n";
+
+/// 6,666,666.7 cd in all directions.
+pub const TWO_THIRDS: &str = "\
+-\n-\n1\n1\n-\n2\n-\n-\n-\n-\n-\n-\n-\n-\n-\n-\n-\n-\n-\n-\n-\n-\n-\n1\n-\n1\n1\nLED\n1000\n-\n-\n-\n-\n-\n-\n-\n-\n-\n\
+-\n-\n-\n-\n0\n0\n180\n6666666.7\n6666666.7\n";
+
+/// A millionth of a candela less.
+pub const UNDER_TWO_THIRDS: &str = "\
+-\n-\n1\n1\n-\n2\n-\n-\n-\n-\n-\n-\n-\n-\n-\n-\n-\n-\n-\n-\n-\n-\n-\n1\n-\n1\n1\nLED\n1000\n-\n-\n-\n-\n-\n-\n-\n-\n-\n\
+-\n-\n-\n-\n0\n0\n180\n6666666.699999\n6666666.699999\n";
+
 /// 300 cd straight down, falling to 0 at gamma 90.
 pub const FALLING: &str = "\
 -\n-\n1\n1\n-\n2\n-\n-\n-\n-\n-\n-\n-\n-\n-\n-\n-\n-\n-\n-\n-\n-\n-\n1\n-\n1\n-\nLED\n1000\n-\n-\n-\n-\n-\n-\n-\n-\n-\n\
@@ -31,6 +46,16 @@ pub const FALLING: &str = "\
 pub const NARROW: &str = "\
 -\n-\n1\n1\n-\n2\n-\n-\n-\n-\n-\n-\n-\n-\n-\n-\n-\n-\n-\n-\n-\n-\n-\n1\n-\n1\n-\nLED\n1000\n-\n-\n-\n-\n-\n-\n-\n-\n-\n\
 -\n-\n-\n-\n0\n0\n30\n300\n0\n";
+
+/// 300 cd to gamma 45, and none beyond.
+pub const TO_45: &str = "\
+-\n-\n1\n1\n-\n2\n-\n-\n-\n-\n-\n-\n-\n-\n-\n-\n-\n-\n-\n-\n-\n-\n-\n1\n-\n1\n1\nLED\n1000\n-\n-\n-\n-\n-\n-\n-\n-\n-\n\
+-\n-\n-\n-\n0\n0\n45\n300\n300\n";
+
+/// 300 cd from gamma 45 to 90, and none before or beyond.
+pub const FROM_45: &str = "\
+-\n-\n1\n1\n-\n2\n-\n-\n-\n-\n-\n-\n-\n-\n-\n-\n-\n-\n-\n-\n-\n-\n-\n1\n-\n1\n1\nLED\n1000\n-\n-\n-\n-\n-\n-\n-\n-\n-\n\
+-\n-\n-\n-\n0\n45\n90\n300\n300\n";
 
 /// Half-planes from 0 to 90 stand for all others, and gamma ends at 90.
 pub const QUARTER: &str = "\

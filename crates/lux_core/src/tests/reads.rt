@@ -82,11 +82,23 @@ fn an_eulumdat_file_is_summed_up(rt: HostRuntime) -> Result<(), Fail> {
     Ok(())
 }
 
+/// `read a.ldt` of a file with these lines is refused with this text.
+fn is_refused(rt: &impl Abort, alloc: Global, file: &str, text: &str) -> Result<(), Fail> {
+    read(
+        rt,
+        alloc,
+        &["read", "a.ldt"],
+        "a.ldt",
+        file.as_bytes(),
+        Status::Refused,
+        text.as_bytes(),
+    )
+}
+
 #[test]
-fn an_eulumdat_file_is_refused_for_its_first_fault(rt: HostRuntime) -> Result<(), Fail> {
+fn a_line_before_the_angles_is_refused(rt: HostRuntime) -> Result<(), Fail> {
     let alloc = rt.alloc();
-    let words = ["read", "a.ldt"];
-    for (isym, planes, factor, kind, flux, rest, text) in [
+    for (isym, planes, factor, kind, flux, text) in [
         // six planes don't divide by four
         (
             "4",
@@ -94,81 +106,55 @@ fn an_eulumdat_file_is_refused_for_its_first_fault(rt: HostRuntime) -> Result<()
             "1",
             "LED",
             "2000",
-            "100\n100\n",
             "refused a.ldt 7 Expand 1 PlaneCount\n",
         ),
         // the type of the lamp stands where its flux belongs
-        (
-            "1",
-            "1",
-            "1",
-            "2000",
-            "LED",
-            "100\n100\n",
-            "refused a.ldt 2 Number 29\n",
-        ),
+        ("1", "1", "1", "2000", "LED", "refused a.ldt 2 Number 29\n"),
         (
             "1",
             "1",
             "1234567890",
             "LED",
             "2000",
-            "100\n100\n",
             "refused a.ldt 3 Range 24\n",
-        ),
-        (
-            "1",
-            "1",
-            "1",
-            "LED",
-            "2000",
-            "100\n",
-            "refused a.ldt 1 Short 47\n",
-        ),
-        (
-            "1",
-            "1",
-            "1",
-            "LED",
-            "2000",
-            "100\n100\nx\n",
-            "refused a.ldt 9 Trailing 48\n",
-        ),
-        (
-            "1",
-            "1",
-            "1",
-            "LED",
-            "2000",
-            "100\n-1\n",
-            "refused a.ldt 6 Negative 47\n",
         ),
     ] {
         let head = even_ldt(alloc, isym, planes, factor, kind, flux)?;
-        let file = format!(in alloc; "{head}{rest}")?;
-        read(
-            &rt,
-            alloc,
-            &words,
-            "a.ldt",
-            file.as_bytes(),
-            Status::Refused,
-            text.as_bytes(),
-        )?;
+        let file = format!(in alloc; "{head}100\n100\n")?;
+        is_refused(&rt, alloc, file.as_str(), text)?;
     }
+    Ok(())
+}
+
+#[test]
+fn intensities_are_refused_and_lines_after_them(rt: HostRuntime) -> Result<(), Fail> {
+    let alloc = rt.alloc();
+    let head = even_ldt(alloc, "1", "1", "1", "LED", "2000")?;
+    for (rest, text) in [
+        ("100\n", "refused a.ldt 1 Short 47\n"),
+        ("100\n-1\n", "refused a.ldt 6 Negative 47\n"),
+        ("100\n100\nx\n", "refused a.ldt 9 Trailing 48\n"),
+    ] {
+        let file = format!(in alloc; "{head}{rest}")?;
+        is_refused(&rt, alloc, file.as_str(), text)?;
+    }
+    Ok(())
+}
+
+#[test]
+fn a_lamp_set_that_the_file_has_not_is_refused(rt: HostRuntime) -> Result<(), Fail> {
+    let alloc = rt.alloc();
     let head = even_ldt(alloc, "1", "1", "1", "LED", "2000")?;
     let file = format!(in alloc; "{head}100\n100\n")?;
-    let second = ["read", "a.ldt", "2"];
     read(
         &rt,
         alloc,
-        &second,
+        &["read", "a.ldt", "2"],
         "a.ldt",
         file.as_bytes(),
         Status::Refused,
         b"refused a.ldt 4 NoLampSet\n",
-    )?;
-    Ok(())
+    )
 }
 
 #[test]
