@@ -9,7 +9,10 @@ use Rattle.photo_table.specs.Table.{Table}
 use Rattle.direct_light.specs.Shares.{no_table}
 use Rattle.room_layout.specs.Accepted.{IsAccepted, IsShine}
 use Rattle.room_layout.specs.declared.room.FileUse.{FileUse}
+use Rattle.scene_system.specs.Causes.{IsCause, IsWithinLimits, total_ticks}
 use Rattle.scene_system.specs.Tables.{AreTablesOf}
+use Rattle.scene_system.specs.declared.fault.SceneFault.{SceneFault}
+use Rattle.scene_system.specs.declared.fault.SceneFault.TheVariants as fault
 use Rattle.lux_core.specs.LampFiles.{LampFile, WasRead, WereRead, HasUnreadFile, IsUnreadFile, file_at, no_file, last_bytes, nothing_read, tables_of}
 use Rattle.lux_core.specs.Commands.{format_of}
 use Rattle.lux_core.specs.LampTables.{HasRead, Says}
@@ -158,3 +161,14 @@ of_unread r bytes room _ text h = absurd (h.unread)
 -- the lamps of an accepted room shine by as many tables as it has files
 pub shining_by : (room : Room) (tables : List Table) → IsAccepted room → length tables ≡ length room.files → All (λ l. IsShine (length tables) l.shine) room.lamps
 shining_by room tables accepted count = λ k d l. subst (λ (n : ℕ). IsShine n (slice_index_or room.lamps k d).shine) (sym count) (accepted.each_lamp k d l).shine
+
+-- ---- limits and causes by the exact tables, where the total is the same
+
+pub within_by : (photos tables : List Table) (room : Room) → total_ticks photos room ≡ total_ticks tables room → IsWithinLimits photos room → IsWithinLimits tables room
+within_by photos tables room e w = record { dim = rw (← e) w.dim; few = w.few; some_open = w.some_open }
+
+pub cause_by : (photos tables : List Table) (room : Room) (f : SceneFault) → total_ticks photos room ≡ total_ticks tables room → IsCause photos room f → IsCause tables room f
+cause_by photos tables room fault.TotalIntensity e c = rw (← e) c
+cause_by photos tables room (fault.TooManyPatches count) e (dim, many, is) = (rw (← e) dim, many, is)
+cause_by photos tables room fault.NoTaskPoint e (dim, few, none) = (rw (← e) dim, few, none)
+cause_by photos tables room fault.Memory e c = tt

@@ -27,7 +27,7 @@ use lux_io::Shelf;
 use photo_table::PhotoTable;
 use radiosity_solve::{Bounds, SolveFault, solve};
 use room_layout::Room;
-use scene_system::laws::{heavy_has_cause, none_is_shown_heavy};
+use scene_system::laws::{heavy_has_cause, none_is_shown_heavy, total_is_of_tables};
 use scene_system::{Scene, SceneFault, assemble};
 use series_enclose::TangentTable;
 use std::alloc::Global;
@@ -119,6 +119,7 @@ fn reply_by_tables(alloc: Global, room: &Room, photos: &[PhotoTable]) -> Result<
     requires photos { length photos.now ≡ length room.now.files }
     ensures { (tables : List Table) → AreTablesOf photos.now tables → IfOk result (λ r. IsSceneAnswer tables room.now r.status (string_bytes r.text)) }
 {
+    total_is_of_tables();
     let sines = TangentTable::build(alloc)?;
     match assemble(alloc, &sines, room, photos) {
         Ok(scene) => {
