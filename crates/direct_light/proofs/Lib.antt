@@ -1,4 +1,5 @@
 pub mod Falls
+pub mod Narrow
 pub mod Ordered
 pub mod PointLists
 pub mod Quotients

@@ -42,6 +42,11 @@ way_is q p there here face clear a r e f seen front some within square far = rec
 pub way_apart : (q p : Place) (face : Face) (clear : Bool) (w : Way) → IsWay q p face clear w → 0 < squared_distance p q
 way_apart q p face clear w way = let f = way.in_front in let g = way.near in let h : 0 < w.squared = omega arith in rw way.squared at h
 
+-- a place that is dark for a point has no way to it
+pub dark_without_way : (q p : Place) (face : Face) (clear : Bool) (w : Way) → IsWay q p face clear w → IsDark q p face clear → ⊥
+dark_without_way q p face clear w way (inl e) = let f = way.seen in cc
+dark_without_way q p face clear w way (inr e) = let f = way.in_front in let g = way.ahead in omega (arith, e, f, g)
+
 -- ---- a share on it
 
 share_lit : (n : ℕ) (i : Interval) (l : Lamp) (q p : Place) (face : Face) (clear : Bool) (w : Way) → IsWay q p face clear w

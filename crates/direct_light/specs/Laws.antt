@@ -1,10 +1,13 @@
 -- What holds of shares at every depth.
-use Rattle.std.specs.Prelude.{ℕ, ◌<◌, ◌≡◌, Bool, List}
+use Rattle.std.specs.Prelude.{ℕ, ◌<◌, ◌≡◌, Bool, List, map}
 use Rattle.fx_base.specs.Interval.{Interval, InOrder}
+use Rattle.fx_base.specs.Ends.{Ends}
+use Rattle.fx_base.specs.Units.{of_span}
 use Rattle.room_layout.specs.Place.{Place, squared_distance}
 use Rattle.room_layout.specs.declared.geometry.Face.{Face}
 use Rattle.room_layout.specs.declared.room.Lamp.{Lamp}
 use Rattle.room_layout.specs.declared.room.Shine.TheVariants.{File}
+use Rattle.photo_table.specs.Exact.{IsIntensityTable, IsNarrow, IsRoundedOf}
 use Rattle.photo_table.specs.Laws.{StandsFor}
 use Rattle.photo_table.specs.Table.{Table, IsTable, value}
 use Rattle.direct_light.specs.Directions.{seen, loose_seen}
@@ -33,3 +36,7 @@ ShareIsInOrder = (n : ℕ) (i : Interval) (l : Lamp) (q p : Place) (face : Face)
 abbrev pub LampShareIsInOrder : Type 0
 LampShareIsInOrder = (n : ℕ) (tables : List Table) (l : Lamp) (q p : Place) (face : Face) (clear : Bool) →
     ((k : ℕ) → l.shine ≡ File k → IsOrdered (table_at tables k)) → InOrder (share n tables l q p face clear) × InOrder (loose_share n tables l q p face clear)
+
+-- a table whose intensities are spans of ticks, as a kept one's are, and none of them wider than a tick, is some exact table rounded
+abbrev pub NarrowHasExact : Type 0
+NarrowHasExact = (p : Table) (spans : List Ends) → p.values ≡ map of_span spans → IsIntensityTable p → IsNarrow p → (t : Table) × IsRoundedOf p t

@@ -3,6 +3,7 @@ pub mod Directions
 pub mod Shares
 pub mod Ways
 pub mod Laws
+mod WayTests
 mod LampTests
 mod DirectionTests
 mod ShareTests

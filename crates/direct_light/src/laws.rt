@@ -1,6 +1,6 @@
 //! What holds of shares at every depth, each law as the contract of a function that does nothing.
 
-ghost use Rattle.direct_light.specs.Laws.{ExactIsOrdered, LampShareIsInOrder, SeenIsInOrder, ShareIsInOrder};
+ghost use Rattle.direct_light.specs.Laws.{ExactIsOrdered, LampShareIsInOrder, NarrowHasExact, SeenIsInOrder, ShareIsInOrder};
 
 /// The exact table that a table stands for has intensities in order.
 pub fn exact_is_ordered()
@@ -20,4 +20,10 @@ pub fn share_is_in_order()
 /// The lower end of the share of a lamp as it shines is at most its upper end, and so it is in the loose form.
 pub fn lamp_share_is_in_order()
     ensures { LampShareIsInOrder }
+{}
+
+/// A table of intensities whose ends are ticks, and that are no wider than one, is some exact table rounded down and up to a tick, so
+/// that the clauses on exact tables say something of it.
+pub fn narrow_has_exact()
+    ensures { NarrowHasExact }
 {}

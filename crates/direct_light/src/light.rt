@@ -11,6 +11,7 @@ ghost use Rattle.photo_table.specs.Table.{Table, upper};
 ghost use Rattle.direct_light.specs.Directions.{loose_seen, seen};
 ghost use Rattle.direct_light.specs.Lamps.{IsLamp, part_count};
 ghost use Rattle.direct_light.specs.Shares.{loosened, share_of};
+ghost use Rattle.direct_light.specs.Ways.{IsDark};
 
 use crate::angles::angles_towards;
 use crate::share::share;
@@ -47,6 +48,7 @@ pub fn even_light(
     requires at { IsInReach at }
     ensures meets { (n : ℕ) → Meets (of_span result) (share_of n (exact (whole candela)) lamp.now (place_of from) (place_of at) face clear) }
     ensures near { (n : ℕ) → LiesIn (of_span result) (loosened (share_of n (outward (half_power 30) (exact (whole candela))) lamp.now (place_of from) (place_of at) face clear)) }
+    ensures dark { IsDark (place_of from) (place_of at) face clear → (result.lo ≡ pos 0) × (result.hi ≡ pos 0) }
     ensures low { pos 0 ≤ℤ result.lo }
     ensures most { natural result.hi * part_count lamp.now ≤ candela * 68719476736 * 4000000 + 2 * part_count lamp.now }
 {
@@ -81,21 +83,20 @@ pub fn direct(
     requires at { IsInReach at }
     ensures meets { (t : Table) → StandsFor photo.now t → (n : ℕ) → Meets (of_span result) (share_of n (seen n t lamp.now (place_of from) (place_of at)) lamp.now (place_of from) (place_of at) face clear) }
     ensures near { (t : Table) → StandsFor photo.now t → (n : ℕ) → LiesIn (of_span result) (loosened (share_of n (loose_seen n t lamp.now (place_of from) (place_of at)) lamp.now (place_of from) (place_of at) face clear)) }
+    ensures dark { IsDark (place_of from) (place_of at) face clear → (result.lo ≡ pos 0) × (result.hi ≡ pos 0) }
     ensures low { pos 0 ≤ℤ result.lo }
     ensures most { (m : ℕ) → IsGreatest upper photo.now (ticks m) → natural result.hi * part_count lamp.now ≤ (m + 1) * 4000000 + 2 * part_count lamp.now }
 {
-    match way_to(from, at, face, clear) {
-        None => Span::whole(0),
-        Some(way) => {
-            let angles = angles_towards(table, lamp, from, at);
-            let intensity = photo.hull(angles.c, angles.gamma);
-            share(
-                intensity,
-                lamp.maintenance,
-                way.ahead,
-                way.squared,
-                part_count(lamp),
-            )
-        }
-    }
+    let Some(way) = way_to(from, at, face, clear) else {
+        return Span::whole(0);
+    };
+    let angles = angles_towards(table, lamp, from, at);
+    let intensity = photo.hull(angles.c, angles.gamma);
+    share(
+        intensity,
+        lamp.maintenance,
+        way.ahead,
+        way.squared,
+        part_count(lamp),
+    )
 }
