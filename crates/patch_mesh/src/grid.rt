@@ -80,10 +80,7 @@ fn put_row(points: &mut Vec<TaskPoint>, room: &Room, j: u32) -> Result<(), Memor
     ensures { OnOk result (points.new.items ≡ points.old.items ++ whole_row room.now j) }
 {
     for i in 0..room.task.nx {
-        match points.push(task_point(room, j, i)) {
-            Ok(()) => {}
-            Err(_) => return Err(Memory),
-        }
+        points.push(task_point(room, j, i))?;
     }
     Ok(())
 }

@@ -27,10 +27,7 @@ fn put_tilings(
     ensures { OnOk result (tilings.new.items ≡ tilings.old.items ++ map (tiling_of longest) surfaces.now) }
 {
     for surface in surfaces {
-        match tilings.push(tiling_of(longest, *surface)) {
-            Ok(()) => {}
-            Err(_) => return Err(Memory),
-        }
+        tilings.push(tiling_of(longest, *surface))?;
     }
     Ok(())
 }
@@ -70,10 +67,7 @@ fn all_patches(alloc: Global, tilings: &[Tiling], count: usize) -> Result<Vec<Pa
     requires each { All IsCutSurface tilings.now }
     ensures { IfOk result (λ v. v.items ≡ flat_map tiling_patches tilings.now) }
 {
-    let mut patches = match Vec::with_capacity(alloc, count) {
-        Ok(empty) => empty,
-        Err(_) => return Err(Memory),
-    };
+    let mut patches = Vec::with_capacity(alloc, count)?;
     for t in tilings {
         put_patches(&mut patches, t)?;
     }
@@ -92,16 +86,11 @@ pub fn mesh(alloc: Global, room: &Room) -> Result<Vec<Patch>, MeshFault>
     ensures reach { IfOk result (λ v. All (IsPatchIn largest_room) v.items) }
     ensures refused { IfErr result (λ e. e ≢ MeshFault.Memory → (2048 < length (patches room.now)) × (e ≡ MeshFault.TooManyPatches (length (patches room.now)))) }
 {
-    let tilings = match tilings(alloc, room) {
-        Ok(tilings) => tilings,
-        Err(_) => return Err(MeshFault::Memory),
-    };
+    let tilings = tilings(alloc, room)?;
     let count = patch_count(&tilings);
     if count > MOST_PATCHES {
         return Err(MeshFault::TooManyPatches(count));
     }
-    match all_patches(alloc, &tilings, count as usize) {
-        Ok(patches) => Ok(patches),
-        Err(_) => Err(MeshFault::Memory),
-    }
+    let patches = all_patches(alloc, &tilings, count as usize)?;
+    Ok(patches)
 }

@@ -1,5 +1,6 @@
 //! Patches and task points.
 
+use fx_base::Memory;
 use room_layout::{Face, Point};
 
 /// A flat rectangle of a surface, for which one illuminance stands: its centre in half mm, where it faces, its area in square
@@ -26,4 +27,15 @@ pub enum MeshFault {
     TooManyPatches(u64),
     /// No memory was left.
     Memory,
+}
+
+impl From<Memory> for MeshFault {
+    ghost use Rattle.std.specs.Prelude.{◌≡◌};
+    ghost use Rattle.patch_mesh.specs.declared.patch.MeshFault.TheVariants as fault;
+
+    ghost from_gives = { λ _ answer. answer ≡ fault.Memory };
+
+    fn from(_: Memory) -> Self {
+        MeshFault::Memory
+    }
 }

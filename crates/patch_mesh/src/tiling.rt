@@ -60,10 +60,7 @@ fn put_row(patches: &mut Vec<Patch>, t: &Tiling, j: u32) -> Result<(), Memory>
     ensures { OnOk result (patches.new.items ≡ patches.old.items ++ whole_row t.now j) }
 {
     for i in 0..t.columns {
-        match patches.push(patch_at(t, j, i)) {
-            Ok(()) => {}
-            Err(_) => return Err(Memory),
-        }
+        patches.push(patch_at(t, j, i))?;
     }
     Ok(())
 }

@@ -66,10 +66,8 @@ impl PhotoTable {
         requires { candela ≤ 10000000 }
         ensures { IfOk result (λ t. t ≡ even_table candela) }
     {
-        match even_grid(alloc, candela) {
-            Ok(grid) => Ok(PhotoTable { grid }),
-            Err(_) => Err(Memory),
-        }
+        let grid = even_grid(alloc, candela)?;
+        Ok(PhotoTable { grid })
     }
 
     /// The hull of the intensities over a bracket of C, which may run over the end of a turn, and one of gamma: it contains the

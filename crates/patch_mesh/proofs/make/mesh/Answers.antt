@@ -9,16 +9,16 @@ pub returns-then-count-gt-MOST_PATCHES-clause-refused : goal.returns-then-count-
 unfolding patches
 returns-then-count-gt-MOST_PATCHES-clause-refused c = λ _.
     let e : c.patch_count-count.result ≡ length (flat_map tiling_patches (tilings c.args.room.now)) =
-    c.patch_count-count.ensures ∙ ap (λ xs. length (flat_map tiling_patches xs)) (c.deref.ensures.value ∙ c.in-Ok.ensures.tilings) in
+    c.patch_count-count.ensures ∙ ap (λ xs. length (flat_map tiling_patches xs)) (c.deref.ensures.value ∙ c.in_ok-tilings.ensures.tilings) in
     (subst (λ n. 2048 < n) e c.if-count-gt-MOST_PATCHES.true, ap TooManyPatches e)
 
-pub returns-in-Ok-all_patches-clause-patches : goal.returns-in-Ok-all_patches-clause-patches
+pub returns-clause-patches : goal.returns-clause-patches
 unfolding patches
-returns-in-Ok-all_patches-clause-patches c =
-    c.in-Ok-all_patches.ensures ∙ ap (flat_map tiling_patches) (c.deref-2.ensures.value ∙ c.in-Ok.ensures.tilings)
+returns-clause-patches c =
+    c.in_ok-patches.ensures ∙ ap (flat_map tiling_patches) (c.deref-2.ensures.value ∙ c.in_ok-tilings.ensures.tilings)
 
-pub returns-in-Ok-all_patches-clause-each : goal.returns-in-Ok-all_patches-clause-each
-returns-in-Ok-all_patches-clause-each c = patches_fit _ _ c.requires (returns-in-Ok-all_patches-clause-patches c)
+pub returns-clause-each : goal.returns-clause-each
+returns-clause-each c = patches_fit _ _ c.requires (returns-clause-patches c)
 
-pub returns-in-Ok-all_patches-clause-reach : goal.returns-in-Ok-all_patches-clause-reach
-returns-in-Ok-all_patches-clause-reach c = patches_reach _ _ c.requires (returns-in-Ok-all_patches-clause-patches c)
+pub returns-clause-reach : goal.returns-clause-reach
+returns-clause-reach c = patches_reach _ _ c.requires (returns-clause-patches c)
