@@ -106,16 +106,11 @@ pub fn angles_in(
 {
     let mut angles = Vec::with_capacity(alloc, n as usize)?;
     for i in 0..n {
-        let angle = match number_in(bytes, cursor, k + i) {
-            Ok(angle) => angle,
-            Err(fault) => return Err(fault),
-        };
+        let angle = number_in(bytes, cursor, k + i)?;
         if !fits(kind, &angles, angle, n - 1 - i) {
             return Err(IesFault::Angles(k + i));
         }
-        if let Err(_) = angles.push(angle) {
-            return Err(IesFault::Memory);
-        }
+        angles.push(angle)?;
     }
     Ok(angles)
 }

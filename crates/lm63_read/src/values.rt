@@ -67,13 +67,8 @@ pub fn values_in(
 {
     let mut spans = Vec::with_capacity(alloc, n as usize)?;
     for i in 0..n {
-        let product = match product_in(bytes, cursor, k + i, factor) {
-            Ok(product) => product,
-            Err(fault) => return Err(fault),
-        };
-        if let Err(_) = spans.push(span_of(product)) {
-            return Err(IesFault::Memory);
-        }
+        let product = product_in(bytes, cursor, k + i, factor)?;
+        spans.push(span_of(product))?;
     }
     Ok(spans)
 }

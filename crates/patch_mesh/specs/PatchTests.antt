@@ -1,5 +1,5 @@
 -- Patches and task points of small rooms, computed.
-use Rattle.std.specs.Prelude.{ℕ, ◌≡◌, refl, List, [], ◌∷◌, None, map, length, pos, nat_abs, true, false}
+use Rattle.std.specs.Prelude.{ℕ, ◌≡◌, refl, List, [], ◌∷◌, None, map, length, nat_abs, true, false}
 use Rattle.std.specs.List.{flat_map}
 use Rattle.room_layout.specs.Place.{point_of}
 use Rattle.room_layout.specs.declared.geometry.Face.TheVariants.{Up, Down, East, West, North, South}

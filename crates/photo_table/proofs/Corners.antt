@@ -1,5 +1,5 @@
 -- The ends of a bracket and the knots in it, and the extreme value over them.
-use Rattle.std.proofs.Common.{ℕ, zero, suc, ◌<◌, ◌≡◌, Bool, true, false, ◌&&◌, if◌then◌else◌, inl, inr, arith, subst, refl}
+use Rattle.std.proofs.Common.{ℕ, zero, suc, ◌<◌, ◌≡◌, Bool, true, false, if◌then◌else◌, inl, inr, arith, subst, refl}
 use Rattle.std.proofs.lemmas.Bool.{cases_lt}
 use Rattle.fx_base.specs.Fraction.{Fraction, ◌≤ᶠ◌, at_most}
 use Rattle.fx_base.specs.Interval.{Interval, Contains}

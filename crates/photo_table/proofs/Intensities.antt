@@ -1,6 +1,5 @@
 -- What the lists of a table keep, said of the table.
-use Rattle.std.proofs.Common.{ℕ, zero, suc, ◌*◌, ◌<◌, ◌≤◌, ◌≤ℤ◌, ℤ, pos, negsuc, List, [], ◌∷◌, length, map, slice_index_or, arith}
-use Rattle.std.proofs.lemmas.Int.{ints}
+use Rattle.std.proofs.Common.{ℕ, zero, suc, ◌*◌, ◌<◌, List, [], ◌∷◌, length, map, slice_index_or, arith}
 use Rattle.fx_base.specs.Ends.{Ends}
 use Rattle.fx_base.specs.Fraction.{◌≤ᶠ◌, whole}
 use Rattle.fx_base.specs.Interval.{InOrder, exact}
