@@ -8,7 +8,7 @@ use Rattle.patch_mesh.specs.declared.tiling.Tiling.{Tiling}
 use Rattle.patch_mesh.specs.Cuts.{parts, cut, part_length}
 use Rattle.patch_mesh.specs.Surfaces.{first_edge, second_edge}
 use Rattle.patch_mesh.specs.Patches.{tiling_of, patch_at, row_patches, whole_row, first_rows, tiling_patches}
-use Rattle.patch_mesh.specs.Tiling.{TileEdge, AreApart, area_of, PatchesTile}
+use Rattle.patch_mesh.specs.Tiling.{TileEdge, AreDistinct, area_of, PatchesTile}
 use Rattle.patch_mesh.proofs.CutLaws.{parts_few, parts_some, parts_reach, cut_begin, cut_finish, cut_below, cut_rises, cut_short}
 use Rattle.patch_mesh.proofs.PatchLists.{row_none, row_more, rows_none, rows_more}
 
@@ -22,13 +22,13 @@ edge_tiled longest edge p q = let some = parts_some longest edge p q in record {
   short = λ i h. cut_short longest edge (parts longest edge) i some (parts_reach longest edge p);
 }
 
-parts_apart : (edge k i j : ℕ) → 1 ≤ k → (i ≡ j → ⊥) → AreApart edge k i j
+parts_apart : (edge k i j : ℕ) → 1 ≤ k → (i ≡ j → ⊥) → AreDistinct edge k i j
 parts_apart edge k i j p n = elim (cases_lt i j) [
   | inl l ↦ inl (cut_below edge k (i + 1) j p (omega arith))
   | inr g ↦ inr (cut_below edge k (j + 1) i p (let strict : j < i = elim (cases_lt j i) [ inl l ↦ l | inr h ↦ absurd (n (omega arith)) ] in omega arith))
 ]
 
-patches_apart : (across columns up rows j i b a : ℕ) → 1 ≤ columns → 1 ≤ rows → ((i ≡ a) × (j ≡ b) → ⊥) → AreApart across columns i a ⊎ AreApart up rows j b
+patches_apart : (across columns up rows j i b a : ℕ) → 1 ≤ columns → 1 ≤ rows → ((i ≡ a) × (j ≡ b) → ⊥) → AreDistinct across columns i a ⊎ AreDistinct up rows j b
 patches_apart across columns up rows j i b a p q n = elim (cases_lt i a) [
   | inl l ↦ inl (parts_apart across columns i a p (λ e. omega (arith, e)))
   | inr g ↦ elim (cases_lt a i) [

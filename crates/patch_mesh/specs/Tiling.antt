@@ -18,8 +18,8 @@ pub record TileEdge (longest edge k : ℕ) : Type 0 where
   pub short : (i : ℕ) → i < k → cut edge k (i + 1) ≤ cut edge k i + longest
 
 -- two parts of an edge have no inside in common
-abbrev pub AreApart : ℕ → ℕ → ℕ → ℕ → Type 0
-AreApart edge k i j = (cut edge k (i + 1) ≤ cut edge k j) ⊎ (cut edge k (j + 1) ≤ cut edge k i)
+abbrev pub AreDistinct : ℕ → ℕ → ℕ → ℕ → Type 0
+AreDistinct edge k i j = (cut edge k (i + 1) ≤ cut edge k j) ⊎ (cut edge k (j + 1) ≤ cut edge k i)
 
 abbrev pub area_of : Patch → ℕ
 area_of p = p.area
@@ -28,7 +28,7 @@ pub record Tiles (longest : ℕ) (t : Tiling) : Type 0 where
   pub columns : TileEdge longest (first_edge t.surface) t.columns
   pub rows : TileEdge longest (second_edge t.surface) t.rows
   -- two patches in different places are apart along one of the axes
-  pub apart : (j i b a : ℕ) → ((i ≡ a) × (j ≡ b) → ⊥) → AreApart (first_edge t.surface) t.columns i a ⊎ AreApart (second_edge t.surface) t.rows j b
+  pub apart : (j i b a : ℕ) → ((i ≡ a) × (j ≡ b) → ⊥) → AreDistinct (first_edge t.surface) t.columns i a ⊎ AreDistinct (second_edge t.surface) t.rows j b
   pub areas : sum_by area_of (tiling_patches t) ≡ first_edge t.surface * second_edge t.surface
 
 -- in an accepted room every surface is tiled by its patches

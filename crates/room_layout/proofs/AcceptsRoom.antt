@@ -12,8 +12,7 @@ use Rattle.room_layout.specs.declared.room.Room.{Room}
 use Rattle.room_layout.specs.declared.parts.Shell.{Shell}
 use Rattle.room_layout.specs.declared.parts.Lit.{Lit}
 use Rattle.room_layout.specs.Checks.{◌>>=◌, demand, spot, optional, array, elements, has_only}
-use Rattle.room_layout.specs.Served.{is_unserved}
-use Rattle.room_layout.specs.Layout.{version_of, document_keys, shell_of, block_of, blocks_from, blocks_of, lamps_from, lamps_of, task_of, limits_of, room_of_document, document_of, room_of, built_room_of_document, built_room_of}
+use Rattle.room_layout.specs.Layout.{version_of, document_keys, shell_of, block_of, blocks_from, blocks_of, lamps_from, lamps_of, task_of, limits_of, room_of_document, document_of, room_of}
 use Rattle.room_layout.specs.Accepted.{IsBlockIn, IsFileUse, IsAccepted}
 use Rattle.room_layout.proofs.Ranges.{bind_ok, ok_same, demand_ok}
 use Rattle.room_layout.proofs.Accepts.{le_from, shell_accepted, block_accepted, task_accepted, limits_accepted}
@@ -129,19 +128,3 @@ room_accepted document r e =
 pub text_accepted : (bytes : List ℕ) (r : Room) → room_of bytes ≡ Ok r → IsAccepted r
 unfolding room_of
 text_accepted bytes r e = let (document, _, e1) = bind_ok (document_of bytes) room_of_document r e in room_accepted document r e1
-
-not_true : (b : Bool) → not b ≡ true → b ≡ false
-not_true false e = refl
-not_true true e = absurd (cc)
-
-pub built_part : (document : Members) (r : Room) → built_room_of_document document ≡ Ok r → (room_of_document document ≡ Ok r) × (is_unserved document ≡ false)
-unfolding built_room_of_document
-built_part document r e =
-    let (room, whole, e1) = bind_ok (room_of_document document) _ r e in
-    let (u, served, e2) = bind_ok (demand (not (is_unserved document)) fault.NotBuilt) _ r e1 in
-    let same : room ≡ r = ok_same _ r e2 in
-    (subst (λ x. room_of_document document ≡ Ok x) same whole, not_true (is_unserved document) (demand_ok _ _ u served))
-
-pub serves_part : (bytes : List ℕ) (r : Room) → built_room_of bytes ≡ Ok r → room_of bytes ≡ Ok r
-unfolding room_of built_room_of
-serves_part bytes r e = let (document, is, e1) = bind_ok (document_of bytes) built_room_of_document r e in rw is (built_part document r e1).0

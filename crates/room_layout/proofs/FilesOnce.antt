@@ -19,7 +19,7 @@ use Rattle.room_layout.specs.declared.room.Room.{Room}
 use Rattle.room_layout.specs.declared.parts.Lit.{Lit}
 use Rattle.room_layout.specs.Checks.{◌>>=◌}
 use Rattle.room_layout.specs.Layout.{is_same_use, placed_at, placed, shine_of, lamp_of, lamps_from, room_of_document}
-use Rattle.room_layout.specs.Files.{ShinesBy, AreApart, HasEachFileOnce}
+use Rattle.room_layout.specs.Files.{ShinesBy, AreDistinct, HasEachFileOnce}
 use Rattle.room_layout.proofs.Ranges.{bind_ok, ok_same}
 use Rattle.room_layout.proofs.AcceptsLamps.{checked_accepted, lamp_parts, lamp_of_parts}
 use Rattle.room_layout.proofs.AcceptsRoom.{lamps_read, room_parts}
@@ -58,7 +58,7 @@ none_passes p xs e = none_if (position_or_len p xs) (length xs) (nat_lt (positio
 
 -- a lamp that shines so after these files leaves those files
 pub record UsesNext (files : List FileUse) (shine : Shine) (more : List FileUse) : Type 0 where
-  pub apart : AreApart files → AreApart more
+  pub apart : AreDistinct files → AreDistinct more
   pub longer : length files ≤ length more
   pub kept : (k : ℕ) (d : FileUse) → k < length files → get_or more k d ≡ get_or files k d
   pub next : (k : ℕ) → shine ≡ File k → k ≤ length files
@@ -121,7 +121,7 @@ uses_lamp room i files d r e =
 
 -- the lamps that are read after these files, and all files after them
 pub record UseFiles (files : List FileUse) (r : Lit) : Type 0 where
-  pub apart : AreApart files → AreApart r.files
+  pub apart : AreDistinct files → AreDistinct r.files
   pub longer : length files ≤ length r.files
   pub kept : (k : ℕ) (d : FileUse) → k < length files → get_or r.files k d ≡ get_or files k d
   pub used : (k : ℕ) → length files ≤ k → k < length r.files → Any (ShinesBy k) r.lamps

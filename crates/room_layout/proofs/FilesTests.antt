@@ -7,7 +7,7 @@ use Rattle.room_layout.specs.declared.room.Lamp.{Lamp}
 use Rattle.room_layout.specs.declared.room.Shine.{Shine}
 use Rattle.room_layout.specs.declared.room.Shine.TheVariants.{Even, File}
 use Rattle.room_layout.specs.declared.room.FileUse.{FileUse}
-use Rattle.room_layout.specs.Files.{ShinesBy, AreApart, AreUsed, AreInOrderOfUse, AsksFor, lamps_in}
+use Rattle.room_layout.specs.Files.{ShinesBy, AreDistinct, AreUsed, AreInOrderOfUse, AsksFor, lamps_in}
 use Rattle.room_layout.proofs.FilesOnce.{same_index}
 use Rattle.room_layout.proofs.Ranges.{some_same}
 
@@ -20,14 +20,14 @@ pair name set = record { name = name; set = set }
 -- ---- each pair once
 
 -- two sets of one file are two pairs
-two_sets : AreApart (pair (codes "a") 2 ∷ pair (codes "a") 1 ∷ [])
+two_sets : AreDistinct (pair (codes "a") 2 ∷ pair (codes "a") 1 ∷ [])
 two_sets zero (suc zero) d before within = λ e. let sets : ◌≡◌ {A = ℕ} 2 1 = ap (λ (f : FileUse). f.set) e in omega arith
 two_sets zero zero d before within = absurd (omega (arith, before))
 two_sets (suc i) (suc zero) d before within = absurd (omega (arith, before))
 two_sets (suc i) zero d before within = absurd (omega (arith, before))
 two_sets i (suc (suc j)) d before within = absurd (omega (arith, within))
 
-twice : AreApart (pair (codes "a") 1 ∷ pair (codes "b") 1 ∷ pair (codes "a") 1 ∷ []) → ⊥
+twice : AreDistinct (pair (codes "a") 1 ∷ pair (codes "b") 1 ∷ pair (codes "a") 1 ∷ []) → ⊥
 twice apart = apart 0 2 (pair [] 0) (lit< tt) (lit< tt) refl
 
 -- ---- in order of first use

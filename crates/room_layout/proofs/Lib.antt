@@ -6,7 +6,6 @@ pub mod Accepts
 pub mod AcceptsLamps
 pub mod AcceptsRoom
 pub mod Apart
-pub mod Plain
 pub mod Document
 pub mod FilesOnce
 pub mod FilesAsked

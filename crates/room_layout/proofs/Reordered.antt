@@ -16,8 +16,7 @@ use Rattle.room_layout.specs.declared.fault.Key.TheVariants as key
 use Rattle.room_layout.specs.declared.geometry.Size.{Size}
 use Rattle.room_layout.specs.declared.room.FileUse.{FileUse}
 use Rattle.room_layout.specs.Checks.{◌>>=◌, demand, each, spot, required, optional, where_given, ranged, kind, number, is_integer, items_list, array, all_numbers, numbers, is_name, name_text, is_among, has_only, table_with, elements}
-use Rattle.room_layout.specs.Layout.{room_keys, version_one, version_of, shell_of, box_keys, block_of, blocks_from, blocks_of, lamp_keys, source_of, fitting_of, lamp_of, lamps_from, lamps_of, task_keys, task_of, limits_keys, limits_in, limits_of, document_keys, room_of_document, built_room_of_document}
-use Rattle.room_layout.specs.Served.{is_unserved}
+use Rattle.room_layout.specs.Layout.{room_keys, version_one, version_of, shell_of, box_keys, block_of, blocks_from, blocks_of, lamp_keys, source_of, fitting_of, lamp_of, lamps_from, lamps_of, task_keys, task_of, limits_keys, limits_in, limits_of, document_keys, room_of_document}
 use Rattle.room_layout.specs.Laws.{IsReordered, same, arrays, tables, IsReorderedIfGiven, neither, both, AreItemsReordered, none, next, AreReordered, IgnoresOrder}
 
 -- ---- unknown keys
@@ -336,15 +335,7 @@ room_of_document-same a b r =
     (λ task. bind-each _ _ _ _ (limits_of-same a b r)
     (λ limits. refl)))))))
 
--- ---- the key that isn't served yet
-
-is_unserved-same : (a b : Members) → AreReordered a b → is_unserved a ≡ is_unserved b
-unfolding is_unserved
-is_unserved-same a b r = given_same (r (codes "limits"))
-
-built_room_of_document-same : (a b : Members) → AreReordered a b → built_room_of_document a ≡ built_room_of_document b
-unfolding built_room_of_document
-built_room_of_document-same a b r = rw (room_of_document-same a b r, is_unserved-same a b r)
+-- ---- the whole
 
 pub ignores_order : IgnoresOrder
-ignores_order a b r = (room_of_document-same a b r, built_room_of_document-same a b r)
+ignores_order a b r = room_of_document-same a b r

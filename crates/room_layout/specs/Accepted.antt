@@ -91,12 +91,3 @@ pub record IsAccepted (r : Room) : Type 0 where
   pub each_file : All IsFileUse r.files
   pub task : IsTaskIn r.size r.task
   pub limits : AreLimits r.limits
-
--- ---- rooms that have only the keys that are served
-
-abbrev pub no_limits : Limits
-no_limits = record { average = None; uniformity = None }
-
--- a room that asks for no limits, which aren't served yet
-pub record IsPlain (r : Room) : Type 0 where
-  pub limits : r.limits ≡ no_limits

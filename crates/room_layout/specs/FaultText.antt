@@ -67,5 +67,4 @@ fault_text (fault.Kind s) = codes "5 Kind " ++ spot_text s
 fault_text (fault.Range s) = codes "6 Range " ++ spot_text s
 fault_text (fault.Outside s) = codes "7 Outside " ++ spot_text s
 fault_text (fault.TooMany s) = codes "8 TooMany " ++ spot_text s
-fault_text fault.NotBuilt = codes "9 NotBuilt"
 fault_text fault.Memory = codes "Memory"

@@ -16,8 +16,8 @@ abbrev pub ShinesBy : ℕ → Lamp → Type 0
 ShinesBy k lamp = lamp.shine ≡ File k
 
 -- no pair of file and set is there twice
-abbrev pub AreApart : List FileUse → Type 0
-AreApart files = AllPairs (λ f g. f ≢ g) files
+abbrev pub AreDistinct : List FileUse → Type 0
+AreDistinct files = AllPairs (λ f g. f ≢ g) files
 
 -- each is used by some lamp
 abbrev pub AreUsed : List FileUse → List Lamp → Type 0
@@ -29,7 +29,7 @@ AreInOrderOfUse lamps = (i k : ℕ) (d : Lamp) → i < length lamps → ShinesBy
 
 -- the room has each pair of file and set that its lamps use once, in order of first use
 pub record HasEachFileOnce (r : Room) : Type 0 where
-  pub apart : AreApart r.files
+  pub apart : AreDistinct r.files
   pub used : AreUsed r.files r.lamps
   pub in_order : AreInOrderOfUse r.lamps
 

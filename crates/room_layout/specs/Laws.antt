@@ -2,28 +2,20 @@
 use Rattle.std.specs.Prelude.{◌≡◌, ℕ, List, Option, Some, None, Ok}
 use Rattle.room_layout.specs.declared.room.Room.{Room}
 use Rattle.toml.specs.Data.{Data, array, table, Items, no_items, item, Members, get_member}
-use Rattle.room_layout.specs.Layout.{room_of_document, room_of, built_room_of_document, built_room_of}
-use Rattle.room_layout.specs.Accepted.{IsAccepted, IsPlain}
+use Rattle.room_layout.specs.Layout.{room_of_document, room_of}
+use Rattle.room_layout.specs.Accepted.{IsAccepted}
 use Rattle.room_layout.specs.Files.{HasEachFileOnce, ShinesAsAsked}
 
 -- ---- the rooms
 
--- a room that the whole layout gives is within every range and limit
+-- a room that the layout gives is within every range and limit
 abbrev pub GivesAccepted : Type 0
 GivesAccepted = (bytes : List ℕ) (r : Room) → room_of bytes ≡ Ok r → IsAccepted r
 
--- a room of the whole layout has each pair of file and set that its lamps use once, in order of first use, and each lamp that shines by a
+-- a room of the layout has each pair of file and set that its lamps use once, in order of first use, and each lamp that shines by a
 -- file has the pair that its table in the document asks for
 abbrev pub GivesFiles : Type 0
 GivesFiles = (document : Members) (r : Room) → room_of_document document ≡ Ok r → HasEachFileOnce r × ShinesAsAsked document r
-
--- the part of the layout that is served gives only what the whole gives
-abbrev pub ServesPart : Type 0
-ServesPart = (bytes : List ℕ) (r : Room) → built_room_of bytes ≡ Ok r → room_of bytes ≡ Ok r
-
--- a room that the part gives asks for no limits
-abbrev pub GivesPlain : Type 0
-GivesPlain = (bytes : List ℕ) (r : Room) → built_room_of bytes ≡ Ok r → IsPlain r
 
 -- ---- the order of keys
 
@@ -48,7 +40,6 @@ mutual
 abbrev pub AreReordered : Members → Members → Type 0
 AreReordered a b = (k : List ℕ) → IsReorderedIfGiven (get_member k a) (get_member k b)
 
--- documents that are the same but for the order of keys, at every level, give the same room or the same fault, by the whole layout and by
--- the part that is served
+-- documents that are the same but for the order of keys, at every level, give the same room or the same fault
 abbrev pub IgnoresOrder : Type 0
-IgnoresOrder = (a b : Members) → AreReordered a b → (room_of_document a ≡ room_of_document b) × (built_room_of_document a ≡ built_room_of_document b)
+IgnoresOrder = (a b : Members) → AreReordered a b → room_of_document a ≡ room_of_document b

@@ -4,7 +4,6 @@ use Rattle.std.specs.Str.{is_utf8, bytes_eq}
 use Rattle.toml.specs.Data.{Data, Members, get_member}
 use Rattle.toml.specs.Parse.{parse_document}
 use Rattle.room_layout.specs.Checks.{◌>>=◌, demand, spot, required, optional, where_given, number, numbers, name_text, table_with, elements, has_only}
-use Rattle.room_layout.specs.Served.{is_unserved}
 use Rattle.room_layout.specs.declared.fault.Key.TheVariants as key
 use Rattle.room_layout.specs.declared.fault.Spot.{Spot}
 use Rattle.room_layout.specs.declared.fault.RoomFault.{RoomFault}
@@ -272,17 +271,6 @@ parsed (Some document) = Ok document
 unfoldable pub document_of : List ℕ → Result Members RoomFault
 document_of bytes = if is_utf8 bytes then parsed (parse_document bytes) else Err fault.NotToml
 
--- the room of a text by the whole layout
+-- the room of a text
 unfoldable pub room_of : List ℕ → Result Room RoomFault
 room_of bytes = document_of bytes >>= room_of_document
-
--- the room of a document by the part of the layout that is served
-unfoldable pub built_room_of_document : Members → Result Room RoomFault
-built_room_of_document document = do
-  room ← room_of_document document
-  served ← demand (not (is_unserved document)) fault.NotBuilt
-  Ok room
-
--- the room of a text by the part of the layout that is served
-unfoldable pub built_room_of : List ℕ → Result Room RoomFault
-built_room_of bytes = document_of bytes >>= built_room_of_document

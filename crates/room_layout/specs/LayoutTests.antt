@@ -10,8 +10,7 @@ use Rattle.room_layout.specs.declared.room.FileUse.{FileUse}
 use Rattle.room_layout.specs.declared.room.Lamp.{Lamp}
 use Rattle.room_layout.specs.declared.room.Room.{Room}
 use Rattle.room_layout.specs.declared.room.Shine.TheVariants.{Even, File}
-use Rattle.room_layout.specs.Layout.{has_margin, placed, document_of, shell_of, block_of, blocks_of, source_of, fitting_of, shine_of, checked_lamp, lamp_of, lamps_of, task_of, limits_in, limits_of, version_of, room_of_document, room_of, built_room_of_document, built_room_of}
-use Rattle.room_layout.specs.Served.{is_unserved}
+use Rattle.room_layout.specs.Layout.{has_margin, placed, document_of, shell_of, block_of, blocks_of, source_of, fitting_of, shine_of, checked_lamp, lamp_of, lamps_of, task_of, limits_in, limits_of, version_of, room_of_document, room_of}
 
 no_version : room_of (codes "room = 1") ≡ Err fault.Version
 unfolding is_utf8 chars toml_on_literals room_of document_of room_of_document version_of
@@ -47,8 +46,8 @@ hall = record {
   limits = record { average = None; uniformity = None };
 }
 
-hall_read : built_room_of hall_text ≡ Ok hall
-unfolding is_utf8 chars toml_on_literals built_room_of built_room_of_document is_unserved document_of room_of_document version_of shell_of blocks_of lamps_of lamp_of source_of fitting_of shine_of checked_lamp task_of limits_of
+hall_read : room_of hall_text ≡ Ok hall
+unfolding is_utf8 chars toml_on_literals room_of document_of room_of_document version_of shell_of blocks_of lamps_of lamp_of source_of fitting_of shine_of checked_lamp task_of limits_of
 hall_read = refl
 
 -- the same hall with its tables and their keys in another order
@@ -65,18 +64,18 @@ turned_hall_text =
     (line (codes "[room]")
     (codes "size = [6000, 6000, 3000]")))))))))
 
-turned_hall_read : built_room_of (line (codes "version = 1") turned_hall_text) ≡ Ok hall
-unfolding is_utf8 chars toml_on_literals built_room_of built_room_of_document is_unserved document_of room_of_document version_of shell_of blocks_of lamps_of lamp_of source_of fitting_of shine_of checked_lamp task_of limits_of
+turned_hall_read : room_of (line (codes "version = 1") turned_hall_text) ≡ Ok hall
+unfolding is_utf8 chars toml_on_literals room_of document_of room_of_document version_of shell_of blocks_of lamps_of lamp_of source_of fitting_of shine_of checked_lamp task_of limits_of
 turned_hall_read = refl
 
 -- a lamp outside the room is refused before the missing task
-lamp_outside_first : built_room_of (line (codes "version = 1") (line (codes "[room]") (line (codes "size = [500, 500, 500]") (line (codes "[[lamp]]") (line (codes "at = [501, 0, 0]") (codes "candela = 1")))))) ≡ Err (fault.Outside (spot key.Lamp 0))
-unfolding is_utf8 chars toml_on_literals built_room_of built_room_of_document is_unserved document_of room_of_document version_of shell_of blocks_of lamps_of lamp_of source_of fitting_of shine_of checked_lamp task_of limits_of
+lamp_outside_first : room_of (line (codes "version = 1") (line (codes "[room]") (line (codes "size = [500, 500, 500]") (line (codes "[[lamp]]") (line (codes "at = [501, 0, 0]") (codes "candela = 1")))))) ≡ Err (fault.Outside (spot key.Lamp 0))
+unfolding is_utf8 chars toml_on_literals room_of document_of room_of_document version_of shell_of blocks_of lamps_of lamp_of source_of fitting_of shine_of checked_lamp task_of limits_of
 lamp_outside_first = refl
 
-limits_not_built : built_room_of (line (codes "limits = {}") hall_text) ≡ Err fault.NotBuilt
-unfolding is_utf8 chars toml_on_literals built_room_of built_room_of_document is_unserved document_of room_of_document version_of shell_of blocks_of lamps_of lamp_of source_of fitting_of shine_of checked_lamp task_of limits_in limits_of
-limits_not_built = refl
+limits_empty : room_of (line (codes "limits = {}") hall_text) ≡ Ok hall
+unfolding is_utf8 chars toml_on_literals room_of document_of room_of_document version_of shell_of blocks_of lamps_of lamp_of source_of fitting_of shine_of checked_lamp task_of limits_in limits_of
+limits_empty = refl
 
 -- a room with reflecting surfaces, a longest edge of a patch and a box
 abbrev furnished_text : List ℕ
@@ -108,40 +107,40 @@ furnished = record {
   limits = record { average = None; uniformity = None };
 }
 
-furnished_read : built_room_of furnished_text ≡ Ok furnished
-unfolding is_utf8 chars toml_on_literals built_room_of built_room_of_document is_unserved document_of room_of_document version_of shell_of blocks_of block_of lamps_of lamp_of source_of fitting_of shine_of checked_lamp task_of limits_of
+furnished_read : room_of furnished_text ≡ Ok furnished
+unfolding is_utf8 chars toml_on_literals room_of document_of room_of_document version_of shell_of blocks_of block_of lamps_of lamp_of source_of fitting_of shine_of checked_lamp task_of limits_of
 furnished_read = refl
 
 -- ---- one fault of each kind
 
 -- a key without a value
-no_value : built_room_of (codes "version =") ≡ Err fault.NotToml
-unfolding is_utf8 chars toml_on_literals built_room_of built_room_of_document is_unserved document_of room_of_document version_of shell_of blocks_of lamps_of lamp_of source_of fitting_of shine_of checked_lamp task_of limits_of
+no_value : room_of (codes "version =") ≡ Err fault.NotToml
+unfolding is_utf8 chars toml_on_literals room_of document_of room_of_document version_of shell_of blocks_of lamps_of lamp_of source_of fitting_of shine_of checked_lamp task_of limits_of
 no_value = refl
 
 -- the version alone
-no_room : built_room_of (codes "version = 1") ≡ Err (fault.Missing (spot key.Room 0))
-unfolding is_utf8 chars toml_on_literals built_room_of built_room_of_document is_unserved document_of room_of_document version_of shell_of blocks_of lamps_of lamp_of source_of fitting_of shine_of checked_lamp task_of limits_of
+no_room : room_of (codes "version = 1") ≡ Err (fault.Missing (spot key.Room 0))
+unfolding is_utf8 chars toml_on_literals room_of document_of room_of_document version_of shell_of blocks_of lamps_of lamp_of source_of fitting_of shine_of checked_lamp task_of limits_of
 no_room = refl
 
 -- an unknown key at the top comes before the room
-unknown_key : built_room_of (line (codes "version = 1") (codes "colour = 1")) ≡ Err (fault.Unknown (spot key.Version 0))
-unfolding is_utf8 chars toml_on_literals built_room_of built_room_of_document is_unserved document_of room_of_document version_of shell_of blocks_of lamps_of lamp_of source_of fitting_of shine_of checked_lamp task_of limits_of
+unknown_key : room_of (line (codes "version = 1") (codes "colour = 1")) ≡ Err (fault.Unknown (spot key.Version 0))
+unfolding is_utf8 chars toml_on_literals room_of document_of room_of_document version_of shell_of blocks_of lamps_of lamp_of source_of fitting_of shine_of checked_lamp task_of limits_of
 unknown_key = refl
 
 -- a room that is no table
-room_of_a_number : built_room_of (line (codes "version = 1") (codes "room = 1")) ≡ Err (fault.Kind (spot key.Room 0))
-unfolding is_utf8 chars toml_on_literals built_room_of built_room_of_document is_unserved document_of room_of_document version_of shell_of blocks_of lamps_of lamp_of source_of fitting_of shine_of checked_lamp task_of limits_of
+room_of_a_number : room_of (line (codes "version = 1") (codes "room = 1")) ≡ Err (fault.Kind (spot key.Room 0))
+unfolding is_utf8 chars toml_on_literals room_of document_of room_of_document version_of shell_of blocks_of lamps_of lamp_of source_of fitting_of shine_of checked_lamp task_of limits_of
 room_of_a_number = refl
 
 -- an edge below 500 mm
-short_room : built_room_of (line (codes "version = 1") (codes "room = { size = [499, 6000, 3000] }")) ≡ Err (fault.Range (spot key.RoomSize 0))
-unfolding is_utf8 chars toml_on_literals built_room_of built_room_of_document is_unserved document_of room_of_document version_of shell_of blocks_of lamps_of lamp_of source_of fitting_of shine_of checked_lamp task_of limits_of
+short_room : room_of (line (codes "version = 1") (codes "room = { size = [499, 6000, 3000] }")) ≡ Err (fault.Range (spot key.RoomSize 0))
+unfolding is_utf8 chars toml_on_literals room_of document_of room_of_document version_of shell_of blocks_of lamps_of lamp_of source_of fitting_of shine_of checked_lamp task_of limits_of
 short_room = refl
 
 -- 33 times 32 points are 1056
-many_points : built_room_of (line (codes "version = 1") (line (codes "room = { size = [500, 500, 500] }") (codes "task = { from = [0, 0], to = [1, 1], height = 0, points = [33, 32] }"))) ≡ Err (fault.TooMany (spot key.TaskPoints 0))
-unfolding is_utf8 chars toml_on_literals built_room_of built_room_of_document is_unserved document_of room_of_document version_of shell_of blocks_of lamps_of lamp_of source_of fitting_of shine_of checked_lamp task_of limits_of
+many_points : room_of (line (codes "version = 1") (line (codes "room = { size = [500, 500, 500] }") (codes "task = { from = [0, 0], to = [1, 1], height = 0, points = [33, 32] }"))) ≡ Err (fault.TooMany (spot key.TaskPoints 0))
+unfolding is_utf8 chars toml_on_literals room_of document_of room_of_document version_of shell_of blocks_of lamps_of lamp_of source_of fitting_of shine_of checked_lamp task_of limits_of
 many_points = refl
 
 -- ---- every key
@@ -189,8 +188,8 @@ served_room = record {
   limits = record { average = None; uniformity = None };
 }
 
-served_read : built_room_of served_text ≡ Ok served_room
-unfolding is_utf8 chars toml_on_literals built_room_of built_room_of_document is_unserved document_of room_of_document version_of shell_of blocks_of block_of lamps_of lamp_of source_of fitting_of shine_of checked_lamp task_of limits_of
+served_read : room_of served_text ≡ Ok served_room
+unfolding is_utf8 chars toml_on_literals room_of document_of room_of_document version_of shell_of blocks_of block_of lamps_of lamp_of source_of fitting_of shine_of checked_lamp task_of limits_of
 served_read = refl
 
 abbrev whole_room : Room

@@ -2,7 +2,6 @@ pub mod Place
 pub mod PlaceTests
 pub mod Positions
 pub mod Checks
-pub mod Served
 pub mod Layout
 pub mod LayoutTests
 pub mod Accepted

@@ -64,8 +64,6 @@ pub enum RoomFault {
     Outside(Spot),
     /// There are more boxes, lamps, pairs of file and set, or task points than the layout allows.
     TooMany(Spot),
-    /// The layout is accepted, and has a key that isn't served yet.
-    NotBuilt,
     /// Want of memory. This says nothing about the text.
     Memory,
 }
@@ -179,7 +177,6 @@ impl fmt::Display for RoomFault {
             RoomFault::Range(spot) => write!(f, "6 Range {spot}"),
             RoomFault::Outside(spot) => write!(f, "7 Outside {spot}"),
             RoomFault::TooMany(spot) => write!(f, "8 TooMany {spot}"),
-            RoomFault::NotBuilt => write!(f, "9 NotBuilt"),
             RoomFault::Memory => write!(f, "Memory"),
         }
     }

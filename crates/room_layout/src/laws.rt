@@ -1,25 +1,15 @@
 //! Laws of the layout: each function's clause is the law, and the function does nothing.
-ghost use Rattle.room_layout.specs.Laws.{GivesAccepted, GivesFiles, ServesPart, GivesPlain, IgnoresOrder};
+ghost use Rattle.room_layout.specs.Laws.{GivesAccepted, GivesFiles, IgnoresOrder};
 
-/// A room that the whole layout gives is within every range and limit.
+/// A room that the layout gives is within every range and limit.
 pub fn gives_accepted()
     ensures { GivesAccepted }
 {}
 
-/// A room that the whole layout gives has each pair of file and lamp set that its lamps use once, in order of first use, and a lamp that
+/// A room that the layout gives has each pair of file and lamp set that its lamps use once, in order of first use, and a lamp that
 /// shines by a file has the name and the set that its table in the document gives.
 pub fn gives_files()
     ensures { GivesFiles }
-{}
-
-/// The part of the layout that is served gives only what the whole gives.
-pub fn serves_part()
-    ensures { ServesPart }
-{}
-
-/// A room that the served part gives asks for no limits.
-pub fn gives_plain()
-    ensures { GivesPlain }
 {}
 
 /// Documents that are the same but for the order of their keys, at every level, give the same answer.

@@ -12,7 +12,6 @@ mod parts;
 mod position;
 mod read;
 mod room;
-mod served;
 mod sizes;
 #[cfg(test)]
 mod tests;

@@ -1,8 +1,8 @@
 //! The room of a layout, table by table in the order of checking.
 ghost use Rattle.std.specs.Prelude.{◌≡◌, ◌≢◌, ◌≤◌, is_some, Result, Ok, Err, IfOk, IfErr};
 ghost use Rattle.toml.specs.View.{view, table_view};
-ghost use Rattle.room_layout.specs.Layout.{task_from, is_rising, is_task_inside, version_of, shell_of, task_of, limits_of, limits_in, room_of_document, document_of, built_room_of_document, built_room_of};
-ghost use Rattle.room_layout.specs.Accepted.{IsAccepted, IsPlain};
+ghost use Rattle.room_layout.specs.Layout.{task_from, is_rising, is_task_inside, version_of, shell_of, task_of, limits_of, limits_in, room_of_document, document_of, room_of};
+ghost use Rattle.room_layout.specs.Accepted.{IsAccepted};
 ghost use Rattle.room_layout.specs.Files.{HasEachFileOnce};
 
 use crate::blocks::read_blocks;
@@ -12,23 +12,21 @@ use crate::check::{
 };
 use crate::lamps::read_lamps;
 use crate::parts::Shell;
-use crate::served::is_unserved;
 use crate::sizes::{reflects_from, size_from};
 use crate::{Key, Limits, Reflects, Room, RoomFault, Size, Spot, TaskGrid};
 use std::alloc::Global;
 use toml::{Table, Value};
 
-/// Reads a room layout: the room, or the first fault in the order of checking. `NotBuilt` comes after every other fault.
-#[tactic(auto, unfolding(crate::specs::Layout::built_room_of))]
+/// Reads a room layout: the room, or the first fault in the order of checking.
+#[tactic(auto, unfolding(crate::specs::Layout::room_of))]
 pub fn read_room(alloc: Global, bytes: &[u8]) -> Result<Room, RoomFault>
-    ensures accepted { IfOk result (λ r. built_room_of bytes.now ≡ Ok r) }
-    ensures refused { IfErr result (λ e. e ≢ RoomFault.Memory → built_room_of bytes.now ≡ Err e) }
+    ensures accepted { IfOk result (λ r. room_of bytes.now ≡ Ok r) }
+    ensures refused { IfErr result (λ e. e ≢ RoomFault.Memory → room_of bytes.now ≡ Err e) }
     ensures bounds { IfOk result IsAccepted }
     ensures files { IfOk result HasEachFileOnce }
-    ensures plain { IfOk result IsPlain }
 {
     let document = parse(alloc, bytes)?;
-    let room = read_built(alloc, &document)?;
+    let room = read_document(alloc, &document)?;
     Ok(room)
 }
 
@@ -49,20 +47,7 @@ fn parse(alloc: Global, bytes: &[u8]) -> Result<Table, RoomFault>
     }
 }
 
-/// The room of a document by the part of the layout that is served.
-#[tactic(auto, unfolding(crate::specs::Layout::built_room_of_document))]
-fn read_built(alloc: Global, document: &Table) -> Result<Room, RoomFault>
-    ensures given { IfOk result (λ r. built_room_of_document (table_view document.now) ≡ Ok r) }
-    ensures refused { IfErr result (λ e. e ≢ RoomFault.Memory → built_room_of_document (table_view document.now) ≡ Err e) }
-{
-    let room = read_document(alloc, document)?;
-    if is_unserved(document) {
-        return Err(RoomFault::NotBuilt);
-    }
-    Ok(room)
-}
-
-/// The room of a document by the whole layout.
+/// The room of a document.
 #[tactic(auto, unfolding(crate::specs::Layout::room_of_document))]
 fn read_document(alloc: Global, document: &Table) -> Result<Room, RoomFault>
     ensures given { IfOk result (λ r. room_of_document (table_view document.now) ≡ Ok r) }

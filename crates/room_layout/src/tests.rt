@@ -34,7 +34,7 @@ points = [1, 1] | points = [33, 32] | 8 TooMany task.points
 points = [1, 1] | points = [32, 32] | accepted
 candela = 5000 | candela = 5000;turn = 0 | accepted
 candela = 5000 | file = 'a.ldt' | accepted
-points = [1, 1] | points = [1, 1];[limits] | 9 NotBuilt";
+points = [1, 1] | points = [1, 1];[limits] | accepted";
 
 /// Reflecting surfaces, a longest edge of a patch and two boxes.
 const FURNISHED: &str = "version = 1
@@ -227,6 +227,27 @@ fn each_key_of_a_lamp_is_read(rt: HostRuntime) -> Result<(), Fail> {
     assert_eq!(rt; (lamp.split_x, lamp.split_y), (2, 3));
     let used = room.files.as_slice().first().ok_or("a file")?;
     assert_eq!(rt; (used.name.text(), used.set), ("a.ldt", 2));
+    Ok(())
+}
+
+#[test]
+fn both_limits_are_read(rt: HostRuntime) -> Result<(), Fail> {
+    let alloc = rt.alloc();
+    let text = edited(
+        alloc,
+        "limits = { average_millilux = 500001, uniformity_permille = 402 }",
+    )?;
+    let room = read_room(alloc, text.as_bytes())?;
+    assert_eq!(rt;
+        (room.limits.average, room.limits.uniformity),
+        (Some(500_001), Some(402))
+    );
+    let text = edited(alloc, "limits = { uniformity_permille = 0 }")?;
+    let room = read_room(alloc, text.as_bytes())?;
+    assert_eq!(rt;
+        (room.limits.average, room.limits.uniformity),
+        (None, Some(0))
+    );
     Ok(())
 }
 

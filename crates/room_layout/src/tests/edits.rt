@@ -14,7 +14,7 @@ version = '1' > 2 Version
 version = 1.0 > 2 Version
 version = 0 > 2 Version
 version = 2 > 2 Version
-version = 1 > 9 NotBuilt
+version = 1 > accepted
 colour = 1 > 4 Unknown version
 colour = 1; version = 2 > 2 Version
 colour = 1; room > 4 Unknown version
@@ -196,16 +196,16 @@ task = { from = [0, 0], to = [1, 1], height = 0, points = [32, 32] }; limits > a
 task = { from = [0, 0], to = [1, 1], height = 0, points = [33, 32] }; limits = 1 > 8 TooMany task.points
 limits = 1 > 5 Kind limits
 limits = { colour = 1 } > 4 Unknown limits
-limits = {} > 9 NotBuilt
+limits = {} > accepted
 limits = { average_millilux = 'x' } > 5 Kind limits.average_millilux
 limits = { average_millilux = -1 } > 6 Range limits.average_millilux
 limits = { average_millilux = 1000000001 } > 6 Range limits.average_millilux
-limits = { average_millilux = 1000000000 } > 9 NotBuilt
+limits = { average_millilux = 1000000000 } > accepted
 limits = { average_millilux = -1, uniformity_permille = 'x' } > 6 Range limits.average_millilux
 limits = { uniformity_permille = [] } > 5 Kind limits.uniformity_permille
 limits = { uniformity_permille = -1 } > 6 Range limits.uniformity_permille
 limits = { uniformity_permille = 1001 } > 6 Range limits.uniformity_permille
-limits = { uniformity_permille = 1000 } > 9 NotBuilt
+limits = { uniformity_permille = 1000 } > accepted
 room = { size = [6000, 5000, 3000] }; box; limits; lamp > accepted
 room = { size = [6000, 5000, 3000] }; box; limits; lamp = [{ at = [0, 0, 0], candela = 1 }] > accepted
 room = { size = [6000, 5000, 3000], reflect = [0, 0, 0, 0, 0, 0] }; box; limits; lamp > accepted
@@ -222,4 +222,4 @@ room = { size = [6000, 5000, 3000] }; box; limits; lamp = [{ at = [0, 0, 0], fil
 room = { size = [6000, 5000, 3000] }; box = []; limits; lamp > accepted
 limits; lamp > accepted
 limits; lamp = [{ at = [3000, 3000, 3000], candela = 5000 }] > accepted
-room = { size = [6000, 5000, 3000] }; box; limits = {}; lamp > 9 NotBuilt";
+room = { size = [6000, 5000, 3000] }; box; limits = {}; lamp > accepted";
