@@ -1,0 +1,8 @@
+//! Rooms made by number, for trials of a stated size.
+#![tactic(auto)]
+
+mod make;
+#[cfg(test)]
+mod tests;
+
+pub use make::make_room;
