@@ -50,12 +50,13 @@ verdict_word Missed = codes "missed"
 verdict_word Undecided = codes "undecided"
 
 -- the line of a limit; there is none where it isn't given
-abbrev pub limit_line : List ℕ → Option ℕ → (ℕ → Verdict) → List ℕ
-limit_line name None judged = []
-limit_line name (Some least) judged = line (codes "limit " ++ name ++ codes " " ++ thousandths least ++ codes " " ++ verdict_word (judged least))
+abbrev pub limit_line : List ℕ → Option ℕ → Option Verdict → List ℕ
+limit_line name (Some least) (Some v) = line (codes "limit " ++ name ++ codes " " ++ thousandths least ++ codes " " ++ verdict_word v)
+limit_line name (Some least) None = []
+limit_line name None v = []
 
--- the lines of both
+-- the lines of both limits
 abbrev pub verdict_lines : Limits → ℕ → ℕ → Option (ℕ × ℕ) → List ℕ
 verdict_lines limits lo hi uniformity =
-    limit_line (codes "average") limits.average (λ least. verdict least lo hi)
-    ++ limit_line (codes "uniformity") limits.uniformity (λ least. uniformity_verdict least uniformity)
+    let verdicts = verdicts_of limits lo hi uniformity in
+    limit_line (codes "average") limits.average verdicts.average ++ limit_line (codes "uniformity") limits.uniformity verdicts.uniformity

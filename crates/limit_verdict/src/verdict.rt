@@ -53,7 +53,7 @@ pub struct Verdicts {
 
 impl Verdicts {
     /// Whether there is this verdict among them.
-    pub fn some_is(&self, verdict: Verdict) -> bool
+    fn some_is(&self, verdict: Verdict) -> bool
         ensures { IsTrue result ↔ SomeIs verdict self.now }
     {
         self.average == Some(verdict) || self.uniformity == Some(verdict)
