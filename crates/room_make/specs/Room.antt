@@ -38,11 +38,11 @@ middle_of edge parts i = (2 * i + 1) * edge / (2 * parts)
 -- ---- texts
 
 -- two numbers, as [3, 2]
-abbrev pub pair : ℕ → ℕ → List ℕ
+unfoldable pub pair : ℕ → ℕ → List ℕ
 pair a b = codes "[" ++ decimal a ++ codes ", " ++ decimal b ++ codes "]"
 
 -- three numbers, as [2800, 2600, 2500]
-abbrev pub triple : ℕ → ℕ → ℕ → List ℕ
+unfoldable pub triple : ℕ → ℕ → ℕ → List ℕ
 triple a b c = codes "[" ++ decimal a ++ codes ", " ++ decimal b ++ codes ", " ++ decimal c ++ codes "]"
 
 -- the pieces with the numbers below a count, one after the other
@@ -67,7 +67,7 @@ lamp_row_text n j = pieces (lamp_text n j) (lamp_columns n)
 
 -- a rectangle 200 inside the walls, 800 above the floor
 abbrev pub task_text : ℕ → List ℕ
-task_text n = codes "[task]\nfrom = [200, 200]\nto = " ++ pair (edge_x n - 200) (edge_y n - 200) ++ codes "\nheight = 800\npoints = " ++ pair (point_columns n) (point_rows n) ++ codes "\n"
+task_text n = codes "[task]\nfrom = " ++ pair 200 200 ++ codes "\nto = " ++ pair (edge_x n - 200) (edge_y n - 200) ++ codes "\nheight = 800\npoints = " ++ pair (point_columns n) (point_rows n) ++ codes "\n"
 
 -- the room's own lines, its boxes, its lamps row by row, and its task
 abbrev pub room_text : ℕ → List ℕ

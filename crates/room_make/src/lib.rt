@@ -2,6 +2,7 @@
 #![tactic(auto)]
 
 mod make;
+mod numbers;
 #[cfg(test)]
 mod tests;
 

@@ -2,6 +2,7 @@
 ghost use Rattle.std.specs.Prelude.{◌≡◌, ◌++◌, ◌<◌, ◌≤◌, IfOk, string_bytes};
 ghost use Rattle.room_make.specs.Room.{box_count, box_text, edge_x, edge_y, head_text, lamp_columns, lamp_row_text, lamp_rows, lamp_text, middle_of, pieces, room_text, task_text};
 
+use crate::numbers::{Pair, Triple};
 use fx_base::Memory;
 use std::alloc::Global;
 
@@ -53,79 +54,87 @@ fn head_text(alloc: Global, n: u32) -> Result<String, Memory>
     requires most { n ≤ 40 }
     ensures { IfOk result (λ s. string_bytes s ≡ head_text n) }
 {
-    let (x, y) = (edge_x(n), edge_y(n));
-    let text = format!(in alloc; "version = 1\n[room]\nsize = [{x}, {y}, 2500]\nreflect = [200, 500, 400, 400, 300, 300]\npatch = 500\n")?;
+    let size = Triple(edge_x(n), edge_y(n), 2500);
+    let text = format!(in alloc;
+        "version = 1\n[room]\nsize = {size}\nreflect = [200, 500, 400, 400, 300, 300]\npatch = 500\n"
+    )?;
     Ok(text)
 }
 
-/// The box with this number from 0.
-fn box_text(alloc: Global, number: u32) -> Result<String, Memory>
+/// The text with a box after it, by the box's number from 0.
+fn with_box(mut text: String, number: u32) -> Result<String, Memory>
     requires { number < 10 }
-    ensures { IfOk result (λ s. string_bytes s ≡ box_text number) }
+    ensures { IfOk result (λ s. string_bytes s ≡ string_bytes text ++ box_text number) }
 {
-    let left = 300 + 800 * number;
-    let right = 800 + 800 * number;
-    let text = format!(in alloc; "[[box]]\nlo = [{left}, 400, 0]\nhi = [{right}, 1000, 700]\nreflect = 300\n")?;
-    Ok(text)
-}
-
-/// The lamp in this row and column, both counted from 0.
-fn lamp_text(alloc: Global, n: u32, row: u32, column: u32) -> Result<String, Memory>
-    requires most { n ≤ 40 }
-    requires row { row < lamp_rows n }
-    requires column { column < lamp_columns n }
-    ensures { IfOk result (λ s. string_bytes s ≡ lamp_text n row column) }
-{
-    let x = middle_of(edge_x(n), lamp_columns(n), column);
-    let y = middle_of(edge_y(n), lamp_rows(n), row);
-    let text = format!(in alloc; "[[lamp]]\nat = [{x}, {y}, 2500]\ncandela = 400\n")?;
-    Ok(text)
-}
-
-/// The task.
-fn task_text(alloc: Global, n: u32) -> Result<String, Memory>
-    requires most { n ≤ 40 }
-    ensures { IfOk result (λ s. string_bytes s ≡ task_text n) }
-{
-    let (x, y) = (edge_x(n) - 200, edge_y(n) - 200);
-    let (columns, rows) = (2 + n / 4, 2 + n / 5);
-    let text = format!(in alloc; "[task]\nfrom = [200, 200]\nto = [{x}, {y}]\nheight = 800\npoints = [{columns}, {rows}]\n")?;
+    let lo = Triple(300 + 800 * number, 400, 0);
+    let hi = Triple(800 + 800 * number, 1000, 700);
+    write!(text, "[[box]]\nlo = {lo}\nhi = {hi}\nreflect = 300\n")?;
     Ok(text)
 }
 
 /// The text with the boxes after it, in a row along x.
-fn with_boxes(mut text: String, alloc: Global, n: u32) -> Result<String, Memory>
+#[tactic(auto, using(crate::proofs::Pieces::no_pieces, crate::proofs::Pieces::one_piece_more))]
+fn with_boxes(mut text: String, n: u32) -> Result<String, Memory>
     requires most { n ≤ 40 }
     ensures { IfOk result (λ s. string_bytes s ≡ string_bytes text ++ pieces box_text (box_count n)) }
 {
     for number in 0..n / 4 {
-        let piece = box_text(alloc, number)?;
-        text.push_str(piece.as_str())?;
+        text = with_box(text, number)?;
     }
     Ok(text)
 }
 
+/// The text with a lamp after it, by the lamp's row and column from 0.
+fn with_lamp(mut text: String, n: u32, row: u32, column: u32) -> Result<String, Memory>
+    requires most { n ≤ 40 }
+    requires row { row < lamp_rows n }
+    requires column { column < lamp_columns n }
+    ensures { IfOk result (λ s. string_bytes s ≡ string_bytes text ++ lamp_text n row column) }
+{
+    let x = middle_of(edge_x(n), lamp_columns(n), column);
+    let y = middle_of(edge_y(n), lamp_rows(n), row);
+    let at = Triple(x, y, 2500);
+    write!(text, "[[lamp]]\nat = {at}\ncandela = 400\n")?;
+    Ok(text)
+}
+
 /// The text with a row of lamps after it.
-fn with_lamp_row(mut text: String, alloc: Global, n: u32, row: u32) -> Result<String, Memory>
+#[tactic(auto, using(crate::proofs::Pieces::no_pieces, crate::proofs::Pieces::one_piece_more))]
+fn with_lamp_row(mut text: String, n: u32, row: u32) -> Result<String, Memory>
     requires most { n ≤ 40 }
     requires row { row < lamp_rows n }
     ensures { IfOk result (λ s. string_bytes s ≡ string_bytes text ++ lamp_row_text n row) }
 {
     for column in 0..lamp_columns(n) {
-        let piece = lamp_text(alloc, n, row, column)?;
-        text.push_str(piece.as_str())?;
+        text = with_lamp(text, n, row, column)?;
     }
     Ok(text)
 }
 
 /// The text with all lamps after it, row by row.
-fn with_lamps(mut text: String, alloc: Global, n: u32) -> Result<String, Memory>
+#[tactic(auto, using(crate::proofs::Pieces::no_pieces, crate::proofs::Pieces::one_piece_more))]
+fn with_lamps(mut text: String, n: u32) -> Result<String, Memory>
     requires most { n ≤ 40 }
     ensures { IfOk result (λ s. string_bytes s ≡ string_bytes text ++ pieces (lamp_row_text n) (lamp_rows n)) }
 {
     for row in 0..lamp_rows(n) {
-        text = with_lamp_row(text, alloc, n, row)?;
+        text = with_lamp_row(text, n, row)?;
     }
+    Ok(text)
+}
+
+/// The text with the task after it.
+fn with_task(mut text: String, n: u32) -> Result<String, Memory>
+    requires most { n ≤ 40 }
+    ensures { IfOk result (λ s. string_bytes s ≡ string_bytes text ++ task_text n) }
+{
+    let from = Pair(200, 200);
+    let to = Pair(edge_x(n) - 200, edge_y(n) - 200);
+    let points = Pair(2 + n / 4, 2 + n / 5);
+    write!(
+        text,
+        "[task]\nfrom = {from}\nto = {to}\nheight = 800\npoints = {points}\n"
+    )?;
     Ok(text)
 }
 
@@ -137,10 +146,9 @@ pub fn make_room(alloc: Global, n: u32) -> Result<Vec<u8>, Memory>
     requires most { n ≤ 40 }
     ensures text { IfOk result (λ v. v.items ≡ room_text n) }
 {
-    let text = head_text(alloc, n)?;
-    let text = with_boxes(text, alloc, n)?;
-    let mut text = with_lamps(text, alloc, n)?;
-    let task = task_text(alloc, n)?;
-    text.push_str(task.as_str())?;
+    let head = head_text(alloc, n)?;
+    let furnished = with_boxes(head, n)?;
+    let lit = with_lamps(furnished, n)?;
+    let text = with_task(lit, n)?;
     Ok(text.into_bytes())
 }
