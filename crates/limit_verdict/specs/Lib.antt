@@ -1,0 +1,4 @@
+-- The definitions, a file for each topic.
+pub mod Verdicts
+pub mod VerdictTests
+pub mod Laws

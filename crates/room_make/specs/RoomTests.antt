@@ -1,0 +1,1 @@
+-- The text of a made room, computed.
