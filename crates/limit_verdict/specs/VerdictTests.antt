@@ -1,8 +1,7 @@
 -- Verdicts, computed.
-use Rattle.std.specs.Prelude.{ℕ, ◌≡◌, refl, codes, map, List, [], ◌∷◌, Some, None}
+use Rattle.std.specs.Prelude.{◌≡◌, refl, codes, map, [], ◌∷◌, Some, None}
 use Rattle.std.specs.Fmt.{digits}
 use Rattle.room_layout.specs.declared.room.Limits.{Limits}
-use Rattle.limit_verdict.specs.declared.verdict.Verdict.{Verdict}
 use Rattle.limit_verdict.specs.declared.verdict.Verdict.TheVariants.{Met, Missed, Undecided}
 use Rattle.limit_verdict.specs.Verdicts.{verdict, verdicts_of, overall, worse, verdict_lines}
 

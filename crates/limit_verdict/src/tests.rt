@@ -1,26 +1,22 @@
 //! Verdicts by table. What is expected is worked out by hand: the ends and the limits are whole thousandths, and each row says on which
 //! side of the limit its ends lie.
+ghost use Rattle.std.specs.Prelude.{◌≤◌, IfSome};
+
 use crate::{Verdict, Verdicts, judge, verdict_text, verdicts};
 use room_layout::Limits;
+use std::alloc::Global;
 use std::test::Fail;
 
 #[test]
 fn a_verdict_turns_at_the_limit_itself(rt: HostRuntime) {
-    let wanted = [
-        (300_000, 299_980, 300_020, Verdict::Undecided),
-        (300_000, 300_000, 300_040, Verdict::Met),
-        (300_000, 299_999, 300_040, Verdict::Undecided),
-        (300_000, 299_950, 299_990, Verdict::Missed),
-        (300_000, 299_950, 299_999, Verdict::Missed),
-        (300_000, 299_950, 300_000, Verdict::Undecided),
-        (300_000, 300_000, 300_000, Verdict::Met),
-        (0, 0, 0, Verdict::Met),
-        (1, 0, u128::MAX, Verdict::Undecided),
-        (u128::MAX, u128::MAX, u128::MAX, Verdict::Met),
-    ];
-    for (least, lo, hi, verdict) in wanted {
-        assert_eq!(rt; judge(least, lo, hi), verdict, "{least}");
-    }
+    assert_eq!(rt; judge(300_000, 299_980, 300_020), Verdict::Undecided);
+    assert_eq!(rt; judge(300_000, 300_000, 300_040), Verdict::Met);
+    assert_eq!(rt; judge(300_000, 299_999, 300_040), Verdict::Undecided);
+    assert_eq!(rt; judge(300_000, 299_950, 299_990), Verdict::Missed);
+    assert_eq!(rt; judge(300_000, 299_950, 299_999), Verdict::Missed);
+    assert_eq!(rt; judge(300_000, 299_950, 300_000), Verdict::Undecided);
+    assert_eq!(rt; judge(0, 0, 0), Verdict::Met);
+    assert_eq!(rt; judge(u128::MAX, u128::MAX, u128::MAX), Verdict::Met);
 }
 
 #[test]
@@ -64,77 +60,73 @@ fn a_limit_that_is_not_given_has_no_verdict(rt: HostRuntime) {
     assert_eq!(rt; neither.overall(), Verdict::Met);
 }
 
+/// The lines of these limits by these ends.
+fn lines(
+    alloc: Global,
+    limits: Limits,
+    average: (u128, u128),
+    uniformity: Option<(u32, u32)>,
+) -> Result<String, Fail>
+    requires average_in_order { average.0 ≤ average.1 }
+    requires uniformity_in_order { IfSome uniformity (λ e. e.0 ≤ e.1) }
+{
+    let text = verdict_text(alloc, &limits, average.0, average.1, uniformity);
+    let text = text.ok().ok_or("memory")?;
+    Ok(text)
+}
+
 #[test]
-fn each_limit_has_its_line(rt: HostRuntime) -> Result<(), Fail> {
-    let printed = Some((522, 523));
+fn the_average_has_its_line(rt: HostRuntime) -> Result<(), Fail> {
     let wanted = [
-        (
-            Some(555_555),
-            None,
-            555_550,
-            555_560,
-            printed,
-            "limit average 555.555 undecided\n",
-        ),
-        (
-            Some(555_550),
-            None,
-            555_550,
-            555_560,
-            printed,
-            "limit average 555.550 met\n",
-        ),
-        (
-            Some(555_561),
-            None,
-            555_550,
-            555_560,
-            printed,
-            "limit average 555.561 missed\n",
-        ),
-        (
-            None,
-            Some(500),
-            383_500,
-            383_510,
-            printed,
-            "limit uniformity 0.500 met\n",
-        ),
-        (
-            None,
-            Some(600),
-            383_500,
-            383_510,
-            printed,
-            "limit uniformity 0.600 missed\n",
-        ),
-        (
-            Some(1000),
-            Some(500),
-            0,
-            10,
-            None,
-            "limit average 1.000 missed\nlimit uniformity 0.500 undecided\n",
-        ),
-        (
-            Some(0),
-            Some(1000),
-            0,
-            10,
-            Some((999, 1000)),
-            "limit average 0.000 met\nlimit uniformity 1.000 undecided\n",
-        ),
-        (None, None, 0, 10, None, ""),
+        (555_555, "limit average 555.555 undecided\n"),
+        (555_550, "limit average 555.550 met\n"),
+        (555_561, "limit average 555.561 missed\n"),
     ];
-    for (average, uniformity, lo, hi, ends, lines) in wanted {
+    for (least, line) in wanted {
         let limits = Limits {
-            average,
-            uniformity,
+            average: Some(least),
+            uniformity: None,
         };
-        let text = verdict_text(rt.alloc(), &limits, lo, hi, ends)
-            .ok()
-            .ok_or("memory")?;
-        assert_eq!(rt; text.as_str(), lines);
+        let text = lines(rt.alloc(), limits, (555_550, 555_560), Some((999, 1000)))?;
+        assert_eq!(rt; text.as_str(), line);
     }
+    Ok(())
+}
+
+#[test]
+fn the_uniformity_has_its_line(rt: HostRuntime) -> Result<(), Fail> {
+    let wanted = [
+        (500, "limit uniformity 0.500 met\n"),
+        (523, "limit uniformity 0.523 undecided\n"),
+        (600, "limit uniformity 0.600 missed\n"),
+    ];
+    for (least, line) in wanted {
+        let limits = Limits {
+            average: None,
+            uniformity: Some(least),
+        };
+        let text = lines(rt.alloc(), limits, (383_500, 383_510), Some((522, 523)))?;
+        assert_eq!(rt; text.as_str(), line);
+    }
+    Ok(())
+}
+
+#[test]
+fn the_line_of_the_average_comes_first(rt: HostRuntime) -> Result<(), Fail> {
+    let limits = Limits {
+        average: Some(1000),
+        uniformity: Some(500),
+    };
+    let in_the_dark = lines(rt.alloc(), limits, (0, 10), None)?;
+    assert_eq!(rt;
+        in_the_dark.as_str(),
+        "limit average 1.000 missed\nlimit uniformity 0.500 undecided\n"
+    );
+    let limits = Limits {
+        average: None,
+        uniformity: None,
+    };
+    let without_limits = lines(rt.alloc(), limits, (0, 10), None)?;
+    assert_eq!(rt; without_limits.as_str(), "");
     Ok(())
 }
