@@ -1,5 +1,5 @@
 -- What holds of verdicts.
-use Rattle.std.specs.Prelude.{ℕ, ◌≡◌, ◌<◌, ◌≤◌, ◌↔◌, Option, Some, IfSome, IsSomeAnd, MatchOption}
+use Rattle.std.specs.Prelude.{ℕ, ◌≡◌, ◌<◌, ◌≤◌, ◌↔◌, Option, Some, IfSome, IsSomeAnd}
 use Rattle.room_layout.specs.declared.room.Limits.{Limits}
 use Rattle.limit_verdict.specs.declared.verdict.Verdict.TheVariants.{Met, Missed, Undecided}
 use Rattle.limit_verdict.specs.declared.verdict.Verdicts.{Verdicts}
@@ -13,9 +13,9 @@ AllReach least lo hi = (x : ℕ) → lo ≤ x → x ≤ hi → least ≤ x
 abbrev pub NoneReach : ℕ → ℕ → ℕ → Type 0
 NoneReach least lo hi = (x : ℕ) → lo ≤ x → x ≤ hi → x < least
 
--- the lower end doesn't, and the upper end does
-abbrev pub OneReaches : ℕ → ℕ → ℕ → Type 0
-OneReaches least lo hi = lo < least × least ≤ hi
+-- the lower end doesn't, and the upper end does, so that the interval lies on both sides
+abbrev pub LiesOnBothSides : ℕ → ℕ → ℕ → Type 0
+LiesOnBothSides least lo hi = lo < least × least ≤ hi
 
 -- what holds of all limits and printed ends that are in order
 abbrev pub OfAllEnds : (Limits → ℕ → ℕ → Option (ℕ × ℕ) → Type 0) → Type 0
@@ -36,8 +36,8 @@ MissedExactly = OfAllEnds (λ limits lo hi uniformity.
 -- it is undecided exactly where it is given and the printed interval has both sides of it, or where no uniformity is printed
 abbrev pub UndecidedExactly : Type 0
 UndecidedExactly = OfAllEnds (λ limits lo hi uniformity.
-    ((verdicts_of limits lo hi uniformity).average ≡ Some Undecided ↔ IsSomeAnd limits.average (λ least. OneReaches least lo hi))
-    × ((verdicts_of limits lo hi uniformity).uniformity ≡ Some Undecided ↔ IsSomeAnd limits.uniformity (λ least. IfSome uniformity (λ e. OneReaches least e.0 e.1))))
+    ((verdicts_of limits lo hi uniformity).average ≡ Some Undecided ↔ IsSomeAnd limits.average (λ least. LiesOnBothSides least lo hi))
+    × ((verdicts_of limits lo hi uniformity).uniformity ≡ Some Undecided ↔ IsSomeAnd limits.uniformity (λ least. IfSome uniformity (λ e. LiesOnBothSides least e.0 e.1))))
 
 -- verdicts say missed together exactly where one of them is
 abbrev pub MissedOverall : Type 0
