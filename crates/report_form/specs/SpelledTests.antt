@@ -24,7 +24,7 @@ ends_of_one : ends_of one ≡ record { average_lo = 555550; average_hi = 555560;
 ends_of_one = refl
 
 -- three points in a row, the middle one covered
-abbrev middle_covered : Report
+abbrev pub middle_covered : Report
 middle_covered = record {
   columns = 3;
   points = Some (record { lo = 23041; hi = 23042 }) ∷ None ∷ Some (record { lo = 23041; hi = 23042 }) ∷ [];
@@ -41,7 +41,7 @@ unfolding digits point_records fields_text is_blank
 grid_where_covered = refl
 
 -- two rows of two, and no uniformity
-abbrev two_rows : Report
+abbrev pub two_rows : Report
 two_rows = record {
   columns = 2;
   points = Some (record { lo = 0; hi = 1 }) ∷ Some (record { lo = 2; hi = 30 }) ∷ Some (record { lo = 400; hi = 5000 }) ∷ None ∷ [];

@@ -1,5 +1,5 @@
 -- What a writer of records into a `Vec` has written.
-use Rattle.std.specs.Prelude.{ℕ, ◌≡◌, ◌++◌, false, List}
+use Rattle.std.specs.Prelude.{ℕ, ◌≡◌, ◌++◌, false, List, Vec}
 use Rattle.std.specs.declared.alloc.Global.{Global}
 use Rattle.csv.specs.Writing.{default_writer, fields_written, has_written, writer_pending, writer_setup, writer_under}
 use Rattle.csv.specs.declared.writer.Writer.{Writer}
