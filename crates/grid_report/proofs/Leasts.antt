@@ -147,4 +147,3 @@ leasts_order vs a b each low high =
     let is = each (w.0) no_point (w.1) in
     let two = natural-mono v.value.lo v.value.hi is.low is.order in
     let three = w.3 in omega arith
-

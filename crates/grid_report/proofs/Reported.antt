@@ -1,15 +1,12 @@
 -- What is printed of values: in order, and the same ends from the values as from their report.
-use Rattle.std.proofs.Common.{ℕ, ◌*◌, ◌/◌, ◌<◌, ◌≤◌, ◌≡◌, ◌∙◌, List, min, ap, sym, refl, subst, arith}
+use Rattle.std.proofs.Common.{ℕ, ◌*◌, ◌/◌, ◌<◌, ◌≤◌, ◌≡◌, ◌∙◌, List, min, ap, sym, refl, arith}
 use Rattle.std.specs.Int.{div_ceil}
-use Rattle.std.specs.Prelude.{Option, Some, None, MatchOption, slice_index_or, option_map}
+use Rattle.std.specs.Prelude.{Option, Some, None, MatchOption, option_map}
 use Rattle.std.proofs.Math.Nat.{div-mul-le_self, mul-le-mul_left, le_of_mul-le-mul_left}
 use Rattle.std.proofs.lemmas.Grind.{div_ceil_times}
-use Rattle.report_form.specs.Judged.{ends_of}
-use Rattle.report_form.specs.declared.judged.Ends.{Ends}
 use Rattle.report_form.specs.declared.report.Printed.{Printed}
-use Rattle.report_form.specs.declared.report.Report.{Report}
 use Rattle.grid_report.specs.Laws.{EndsAreTheReports}
-use Rattle.grid_report.specs.Reports.{in_cents, printed_ratio, AreEndsOf, IsReportOf, IsUniformityPrinted}
+use Rattle.grid_report.specs.Reports.{in_cents, IsUniformityPrinted}
 use Rattle.grid_report.specs.Sums.{average_high, average_low, lower_end, upper_end, IsLeast, IsUniformity}
 use Rattle.grid_report.specs.declared.value.Ratio.{Ratio}
 use Rattle.grid_report.specs.declared.value.PointValue.{PointValue}

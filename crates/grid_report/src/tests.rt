@@ -181,8 +181,7 @@ fn grids_have_a_record_for_each_point(rt: HostRuntime) -> Result<(), Fail> {
     let values = [desk, dark(), desk];
     assert_eq!(rt;
         grid_text(rt.alloc(), 3, &values)?.as_slice(),
-        b"column,row,lower,upper\n0,0,230.41,230.42\n1,0,,\n2,0,230.41,230.42\n"
-            .as_slice()
+        b"column,row,lower,upper\n0,0,230.41,230.42\n1,0,,\n2,0,230.41,230.42\n".as_slice()
     );
     Ok(())
 }

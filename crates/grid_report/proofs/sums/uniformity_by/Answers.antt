@@ -1,5 +1,5 @@
 -- What of `uniformity_by` wants a proof by hand.
-use Rattle.std.proofs.Common.{ℕ, ◌≡◌, ◌*◌, ◌/◌, ◌<◌, min, arith, rules}
+use Rattle.std.proofs.Common.{◌≡◌, ◌*◌, ◌/◌, ◌<◌, min, rules}
 use Rattle.std.specs.Int.{div_ceil}
 use Rattle.grid_report.specs.Sums.{average_high, average_low}
 use Rattle.grid_report.proofs.Reported.{shares_order}
