@@ -6,6 +6,7 @@ use Rattle.std.proofs.lemmas.Bool.{cases_lt}
 use Rattle.fx_base.proofs.Rounding.{natural-mono}
 use Rattle.grid_report.specs.Sums.{is_open, lesser_open, lower_end, upper_end, IsLeast, IsValue}
 use Rattle.grid_report.specs.declared.value.PointValue.{PointValue}
+use Rattle.grid_report.proofs.Means.{no_point}
 
 -- the least of `least` and the numbers of the values that aren't covered
 unfoldable pub least_from : (PointValue → ℕ) → List PointValue → ℕ → ℕ
@@ -135,3 +136,14 @@ pub least_within : (number : PointValue → ℕ) (values : List PointValue) (ind
 least_within number values index least start e so_far =
     let f : least_from number values start ≡ least = sym so_far ∙ (rw e (ended number values least)) in
     let g = most_start number values start in omega arith
+
+-- the least lower end is at most the least upper end
+pub leasts_order : (vs : List PointValue) (a b : ℕ) → ((g : ℕ) (d : PointValue) → g < length vs → IsValue (slice_index_or vs g d))
+    → IsLeast lower_end vs a → IsLeast upper_end vs b → a ≤ b
+leasts_order vs a b each low high =
+    let w = high.attained no_point in
+    let v = slice_index_or vs (w.0) no_point in
+    let one = low.below (w.0) no_point (w.1) (w.2) in
+    let is = each (w.0) no_point (w.1) in
+    let two = natural-mono v.value.lo v.value.hi is.low is.order in
+    let three = w.3 in omega arith

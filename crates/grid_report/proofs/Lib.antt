@@ -1,3 +1,4 @@
+-- The lemmas, a file for each topic.
 pub mod PointSums
 pub mod PointOrder
 pub mod Near
@@ -5,9 +6,9 @@ pub mod Composed
 pub mod AtPoints
 pub mod GridOrder
 pub mod Leasts
-pub mod Lines
 pub mod Means
 pub mod Printing
+pub mod Reported
 pub mod Right
 pub mod Rooms
 pub mod Shares

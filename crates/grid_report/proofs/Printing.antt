@@ -8,7 +8,7 @@ use Rattle.fx_base.specs.Interval.{Interval, Meets, LiesIn, outward}
 use Rattle.fx_base.specs.Units.{ticks}
 use Rattle.fx_base.proofs.Order.{le_refl_f, le_trans_f, add_le_f, add_right_f, add_swap_f, sub_le_f}
 use Rattle.fx_base.proofs.Ratios.{ratio_le, le_ratio, ratio_num, ratio_den}
-use Rattle.grid_report.specs.Printed.{said}
+use Rattle.report_form.specs.Spelled.{said}
 use Rattle.grid_report.specs.Reports.{in_cents}
 
 -- ---- hundredths

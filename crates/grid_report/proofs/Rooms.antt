@@ -17,7 +17,9 @@ use Rattle.photo_table.specs.Table.{Table}
 use Rattle.scene_system.specs.Scene.{task_point_of, radiosity, loose_radiosity}
 use Rattle.grid_report.specs.Headline.{least_end, IsInOrder, Fits, MeetsValues, IsNarrow, IsRight}
 use Rattle.grid_report.specs.RoomValues.{ForExactValues, ForLooseValues}
-use Rattle.grid_report.specs.Printed.{Printed, Report, said}
+use Rattle.report_form.specs.Spelled.{said}
+use Rattle.report_form.specs.declared.report.Printed.{Printed}
+use Rattle.report_form.specs.declared.report.Report.{Report}
 use Rattle.grid_report.specs.PointValues.{ArePoints}
 use Rattle.grid_report.specs.Reports.{in_cents, printed_ratio, printed_value, IsReportOf}
 use Rattle.grid_report.specs.Sums.{lower_end, upper_end, open_total, average_low, average_high, IsLeast, IsUniformity, IsValue}
@@ -26,6 +28,8 @@ use Rattle.grid_report.specs.declared.value.Ratio.{Ratio}
 use Rattle.grid_report.proofs.Means.{AreCoveredBy, no_point}
 use Rattle.grid_report.proofs.Printing.{printed_meets, printed_near}
 use Rattle.grid_report.proofs.Right.{averages_order, AreMeeting, AreNear, average_meets, average_near_low, average_near_high, least_within_average, down_uniformity, up_uniformity, positive_average, down_uniformity_near, up_uniformity_near}
+use Rattle.grid_report.proofs.Reported.{cents_order}
+use Rattle.grid_report.proofs.Leasts.{leasts_order}
 use Rattle.grid_report.proofs.Shares.{IsDown, IsUp, is_down, is_up, down_by_ends, up_by_ends}
 
 -- ---- the values of a room, as those of a grid
@@ -257,10 +261,6 @@ least_high_printed vs b high is e =
 
 -- ---- what is printed is in order
 
--- ticks in order are printed in order
-cents_order : (low high : ℕ) → low ≤ high → IsInOrder (in_cents low high)
-cents_order low high h = omega (arith, div-mul-le_self (low * 100) 68719476736, (div_ceil_times (high * 100) 68719476736 (omega arith)).0, h)
-
 positive_cents : (high : ℕ) → 0 < high → 0 < div_ceil (high * 100) 68719476736
 positive_cents high h = omega (arith, (div_ceil_times (high * 100) 68719476736 (omega arith)).0, h)
 
@@ -270,17 +270,6 @@ points_order tables room vs are g =
     let v = slice_index_or vs g no_point in
     each_printed P vs g tt (λ l. let p = are.each g no_point l in by_cover P v.covered (in_cents (natural v.value.lo) (natural v.value.hi)) tt
     (λ o. cents_order (natural v.value.lo) (natural v.value.hi) (natural-mono v.value.lo v.value.hi p.low p.order)))
-
--- the least lower end is at most the least upper end
-leasts_order : (vs : List PointValue) (a b : ℕ) → ((g : ℕ) (d : PointValue) → g < length vs → IsValue (slice_index_or vs g d))
-    → IsLeast lower_end vs a → IsLeast upper_end vs b → a ≤ b
-leasts_order vs a b each low high =
-    let w = high.attained no_point in
-    let v = slice_index_or vs (w.0) no_point in
-    let one = low.below (w.0) no_point (w.1) (w.2) in
-    let is = each (w.0) no_point (w.1) in
-    let two = natural-mono v.value.lo v.value.hi is.low is.order in
-    let three = w.3 in omega arith
 
 quotients_order : (a b low high m n : ℕ) → a ≤ b → low ≤ high → 0 < low → m * high ≤ a * 1000 → b * 1000 ≤ n * low → m ≤ n
 quotients_order a b low high m n h o p below above =

@@ -7,7 +7,9 @@ use Rattle.interval_system.specs.Values.{average, uniformity}
 use Rattle.room_layout.specs.declared.room.Room.{Room}
 use Rattle.photo_table.specs.Table.{Table}
 use Rattle.scene_system.specs.Scene.{task_point_of, radiosity, loose_radiosity}
-use Rattle.grid_report.specs.Printed.{Printed, Report, said}
+use Rattle.report_form.specs.Spelled.{said}
+use Rattle.report_form.specs.declared.report.Printed.{Printed}
+use Rattle.report_form.specs.declared.report.Report.{Report}
 use Rattle.grid_report.specs.RoomValues.{ForExactValues, ForLooseValues}
 
 abbrev pub ends_at : Report → ℕ → Option Printed

@@ -12,8 +12,10 @@ use Rattle.scene_system.specs.Assembled.{Numbers, IsSceneOf, IsWellFormed}
 use Rattle.scene_system.specs.Tables.{AreExactTables}
 use Rattle.grid_report.specs.Headline.{IsRight}
 use Rattle.grid_report.specs.PointValues.{AreValuesOf, ArePoints}
-use Rattle.grid_report.specs.Printed.{Report}
-use Rattle.grid_report.specs.Reports.{IsReportOf}
+use Rattle.report_form.specs.Judged.{ends_of}
+use Rattle.report_form.specs.declared.judged.Ends.{Ends}
+use Rattle.report_form.specs.declared.report.Report.{Report}
+use Rattle.grid_report.specs.Reports.{AreEndsOf, IsReportOf}
 use Rattle.grid_report.specs.Sums.{open_total}
 use Rattle.grid_report.specs.declared.value.PointValue.{PointValue}
 
@@ -34,3 +36,7 @@ AverageIsInOrder = (s : Grid) → 0 < open_count s.covered s.points → ((g : �
 
 abbrev pub UniformityIsInOrder : Type 0
 UniformityIsInOrder = (s : Grid) → 0 < open_count s.covered s.points → ((g : ℕ) → g < s.points → s.covered g ≡ false → InOrder (s.value g)) → InOrder (uniformity s)
+
+-- limits are held against the same ends whether these are taken from values or from their report
+abbrev pub EndsAreTheReports : Type 0
+EndsAreTheReports = (columns : ℕ) (values : List PointValue) (r : Report) (e : Ends) → IsReportOf columns values r → AreEndsOf values e → ends_of r ≡ e

@@ -1,12 +1,11 @@
 -- The definitions, computed.
-use Rattle.std.specs.Prelude.{◌≡◌, ◌+◌, ◌==◌, ◌&&◌, List, ◌∷◌, [], true, false, refl, pos, codes, Some, None}
-use Rattle.std.specs.Fmt.{digits}
+use Rattle.std.specs.Prelude.{◌≡◌, ◌+◌, ◌==◌, ◌&&◌, List, ◌∷◌, [], true, false, refl, pos, Some, None}
 use Rattle.fx_base.specs.Fraction.{at_most, ratio, whole, ◌+ᶠ◌, ◌*ᶠ◌, ◌/ᶠ◌, lesser, sum_to}
 use Rattle.fx_base.specs.Interval.{exact}
 use Rattle.interval_system.specs.Values.{Grid, open_count, open_sum, mean, least, average, uniformity}
 use Rattle.fx_base.specs.Rounded.{down_to, up_to}
 use Rattle.grid_report.specs.Headline.{least_end}
-use Rattle.grid_report.specs.Printed.{Printed, point_lines, report_text}
+use Rattle.report_form.specs.declared.report.Printed.{Printed}
 use Rattle.grid_report.specs.Reports.{in_cents, printed_ratio, printed_value}
 use Rattle.interval_system.specs.Sent.{sent_low, sent_high}
 use Rattle.grid_report.specs.Sums.{average_low, average_high}
@@ -47,17 +46,7 @@ average_of_values = refl
 thousandths_outward : printed_ratio (record { lo = 9239; hi = 246092 }) ≡ record { lo = 9; hi = 247 }
 thousandths_outward = refl
 
--- ---- texts
-
-report_of_one : report_text (record { columns = 1; points = Some (record { lo = 55555; hi = 55556 }) ∷ []; average = record { lo = 55555; hi = 55556 }; uniformity = Some (record { lo = 999; hi = 1000 }) })
-    ≡ codes "point 0 0 555.55 555.56\naverage 555.55 555.56\nuniformity 0.999 1.000\n"
-unfolding digits point_lines
-report_of_one = refl
-
-covered_report : report_text (record { columns = 2; points = None ∷ Some (record { lo = 0; hi = 1 }) ∷ []; average = record { lo = 0; hi = 1 }; uniformity = None })
-    ≡ codes "point 0 0 covered\npoint 1 0 0.00 0.01\naverage 0.00 0.01\nuniformity none\n"
-unfolding digits point_lines
-covered_report = refl
+-- ---- what is printed
 
 least_of_three : least_end (λ (d : Printed). d.lo) (Some (record { lo = 7; hi = 9 }) ∷ None ∷ Some (record { lo = 5; hi = 20 }) ∷ []) ≡ Some 5
 least_of_three = refl

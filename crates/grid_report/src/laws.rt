@@ -1,5 +1,5 @@
 //! What holds of the definitions in `specs/`, each as the contract of a function that does nothing.
-ghost use Rattle.grid_report.specs.Laws.{AverageIsInOrder, ReportIsRight, UniformityIsInOrder, ValuesArePoints};
+ghost use Rattle.grid_report.specs.Laws.{AverageIsInOrder, EndsAreTheReports, ReportIsRight, UniformityIsInOrder, ValuesArePoints};
 
 /// Where what is divided and the divisor change little, the lesser of 1 and their quotient does.
 pub use fx_base::laws::quotient_is_steady;
@@ -26,4 +26,9 @@ pub fn values_are_points()
 /// ones.
 pub fn report_is_right()
     ensures { ReportIsRight }
+{}
+
+/// Limits are held against the same ends whether these are taken from values or from their report.
+pub fn ends_are_the_reports()
+    ensures { EndsAreTheReports }
 {}

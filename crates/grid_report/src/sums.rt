@@ -49,6 +49,7 @@ pub fn average(values: &[PointValue]) -> Span
     requires values { All IsValue values.now }
     ensures low { result.lo ≡ pos (average_low values.now) }
     ensures high { result.hi ≡ pos (average_high values.now) }
+    ensures order { average_low values.now ≤ average_high values.now }
     ensures most { natural result.hi ≤ 2 ^ 113 }
 {
     let totals = totals_of(values);
@@ -86,6 +87,7 @@ fn least_ends(values: &[PointValue]) -> LeastEnds
     requires values { All IsValue values.now }
     ensures low { IsLeast lower_end values.now result.low }
     ensures high { IsLeast upper_end values.now result.high }
+    ensures order { result.low ≤ result.high }
     ensures low_most { result.low ≤ 2 ^ 102 }
     ensures high_most { result.high ≤ 2 ^ 102 }
 {
@@ -100,14 +102,17 @@ fn least_ends(values: &[PointValue]) -> LeastEnds
 }
 
 /// The least value by the average, in millionths, rounded outward and at most 1,000,000; none where the average's lower end is 0.
-pub fn uniformity(values: &[PointValue]) -> Option<Ratio>
+pub(crate) fn uniformity_by(values: &[PointValue], mean: Span) -> Option<Ratio>
     requires some { 0 < open_total values.now }
-    requires few { length values.now ≤ 1024 }
     requires values { All IsValue values.now }
+    requires low { mean.lo ≡ pos (average_low values.now) }
+    requires high { mean.hi ≡ pos (average_high values.now) }
+    requires order { average_low values.now ≤ average_high values.now }
     ensures none { IfNone result (average_low values.now ≡ 0) }
     ensures some { IfSome result (λ u. IsUniformity values.now u.lo u.hi) }
+    ensures order { IfSome result (λ u. u.lo ≤ u.hi) }
+    ensures most { IfSome result (λ u. u.hi ≤ 1000000) }
 {
-    let mean = average(values);
     let below = magnitude(mean.lo());
     let above = magnitude(mean.hi());
     if below == 0 {
@@ -120,4 +125,15 @@ pub fn uniformity(values: &[PointValue]) -> Option<Ratio>
         lo: lo as u32,
         hi: hi as u32,
     })
+}
+
+/// The least value by the average, in millionths, rounded outward and at most 1,000,000; none where the average's lower end is 0.
+pub fn uniformity(values: &[PointValue]) -> Option<Ratio>
+    requires some { 0 < open_total values.now }
+    requires few { length values.now ≤ 1024 }
+    requires values { All IsValue values.now }
+    ensures none { IfNone result (average_low values.now ≡ 0) }
+    ensures some { IfSome result (λ u. IsUniformity values.now u.lo u.hi) }
+{
+    uniformity_by(values, average(values))
 }

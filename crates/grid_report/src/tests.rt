@@ -1,10 +1,12 @@
 //! What is expected is worked out with Python's fractions from the rules of the definitions: sums over the points that aren't covered,
 //! quotients rounded outward, and a uniformity of at most 1.
-ghost use Rattle.std.specs.Prelude.{◌≡◌, ◌^◌, ◌≤◌, true, false, IfOk, length};
+ghost use Rattle.std.specs.Prelude.{◌≡◌, ◌^◌, ◌<◌, ◌≤◌, true, false, All, IfOk, length};
 ghost use Rattle.interval_system.specs.System.{IsRow};
-ghost use Rattle.grid_report.specs.Sums.{IsValue};
+ghost use Rattle.grid_report.specs.Sums.{open_total, IsValue};
 
-use crate::{PointValue, Ratio, average, points, report_text, uniformity};
+use crate::{
+    Ends, PointValue, Ratio, average, ends, grid_text, points, report, report_text, uniformity,
+};
 use fx_base::{Memory, Span, Tick, Weight, tick_of};
 use interval_system::{IntervalSystem, Row};
 use patch_mesh::{Patch, TaskPoint};
@@ -141,6 +143,20 @@ fn nearly_no_light_has_no_uniformity(rt: HostRuntime) -> Result<(), Fail> {
     Ok(())
 }
 
+/// Two rows of two points, one of them covered.
+fn two_rows() -> [PointValue; 4]
+    ensures values { All IsValue result }
+    ensures some { 0 < open_total result }
+    ensures four { length result ≡ 4 }
+{
+    [
+        lit(6_871_947_673_600, 6_871_947_673_600),
+        dark(),
+        lit(3_435_973_836_801, 3_435_973_836_802),
+        lit(34_359_738_368, 848_383_171_991),
+    ]
+}
+
 #[test]
 fn reports_have_a_line_for_each_point(rt: HostRuntime) -> Result<(), Fail> {
     let values = [lit(15_833_998_232_125, 15_833_998_232_135), dark()];
@@ -148,19 +164,44 @@ fn reports_have_a_line_for_each_point(rt: HostRuntime) -> Result<(), Fail> {
         report_text(rt.alloc(), 2, &values)?.as_str(),
         "point 0 0 230.41 230.42\npoint 1 0 covered\naverage 230.41 230.42\nuniformity 0.999 1.000\n"
     );
-    let values = [
-        lit(6_871_947_673_600, 6_871_947_673_600),
-        dark(),
-        lit(3_435_973_836_801, 3_435_973_836_802),
-        lit(34_359_738_368, 848_383_171_991),
-    ];
     assert_eq!(rt;
-        report_text(rt.alloc(), 2, &values)?.as_str(),
+        report_text(rt.alloc(), 2, &two_rows())?.as_str(),
         "point 0 0 100.00 100.00\npoint 1 0 covered\npoint 0 1 50.00 50.01\npoint 1 1 0.50 12.35\naverage 50.16 54.12\nuniformity 0.009 0.247\n"
     );
     assert_eq!(rt;
         report_text(rt.alloc(), 1, &[lit(0, 343_597_383)])?.as_str(),
         "point 0 0 0.00 0.01\naverage 0.00 0.01\nuniformity none\n"
+    );
+    Ok(())
+}
+
+#[test]
+fn grids_have_a_record_for_each_point(rt: HostRuntime) -> Result<(), Fail> {
+    let desk = lit(15_833_998_232_125, 15_833_998_232_135);
+    let values = [desk, dark(), desk];
+    assert_eq!(rt;
+        grid_text(rt.alloc(), 3, &values)?.as_slice(),
+        b"column,row,lower,upper\n0,0,230.41,230.42\n1,0,,\n2,0,230.41,230.42\n".as_slice()
+    );
+    Ok(())
+}
+
+#[test]
+fn limits_are_held_against_printed_ends(rt: HostRuntime) -> Result<(), Fail> {
+    let wanted = Ends {
+        average_lo: 50_160,
+        average_hi: 54_120,
+        uniformity: Some((9, 247)),
+    };
+    assert_eq!(rt; ends(&two_rows()), wanted);
+    assert_eq!(rt; report(rt.alloc(), 2, &two_rows())?.ends(), wanted);
+    assert_eq!(rt;
+        ends(&[lit(0, 343_597_383)]),
+        Ends {
+            average_lo: 0,
+            average_hi: 10,
+            uniformity: None,
+        }
     );
     Ok(())
 }

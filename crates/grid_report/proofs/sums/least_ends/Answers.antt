@@ -1,6 +1,6 @@
 use Rattle.std.proofs.Common.{arith}
 use Rattle.grid_report.specs.Sums.{lower_end, upper_end}
-use Rattle.grid_report.proofs.Leasts.{least_step, all_least, least_within, lower_within, upper_within}
+use Rattle.grid_report.proofs.Leasts.{least_step, all_least, least_within, leasts_order, lower_within, upper_within}
 use Rattle.grid_report.proofs.sums.least_ends.Goals as goal
 
 pub loop-point-preserved : goal.loop-point-preserved
@@ -24,3 +24,6 @@ returns-clause-low_most c = least_within lower_end c.args.values.now c.loop-poin
 
 pub returns-clause-high_most : goal.returns-clause-high_most
 returns-clause-high_most c = least_within upper_end c.args.values.now c.loop-point.point-index c.loop-point.least.high 5070602400912917605986812821504 (omega arith) c.loop-point.invariant.upper
+
+pub returns-clause-order : goal.returns-clause-order
+returns-clause-order c = leasts_order c.args.values.now c.loop-point.least.low c.loop-point.least.high c.requires.values (returns-clause-low c) (returns-clause-high c)

@@ -1,0 +1,3 @@
+-- The lemmas, a file for each topic.
+pub mod SoFar
+pub mod Records
