@@ -7,3 +7,4 @@ pub mod Rows
 pub mod Steps
 pub mod Written
 
+mod ClaimTests

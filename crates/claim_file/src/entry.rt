@@ -11,6 +11,7 @@ use csv::ByteRecord;
 use fx_base::{Tick, tick_of};
 
 /// The bounds of one patch.
+#[derive(Clone, Copy)]
 pub(crate) struct Entry {
     pub(crate) lower: Tick,
     pub(crate) upper: Tick,
@@ -27,23 +28,24 @@ fn number_in(row: &ByteRecord, i: usize) -> Option<u128>
 }
 
 /// The bounds in the record of patch n, counted from 0.
+#[tactic(auto, unfolding(crate::specs::Claims::entry_in))]
 pub(crate) fn read_entry(row: &ByteRecord, n: usize) -> Result<Entry, ClaimFault>
     requires few { n < 2048 }
     ensures read { result ≡ entry_in n (fields_of row.now) }
     ensures lower_end { IfOk result (λ entry. IsEnd entry.lower) }
     ensures upper_end { IfOk result (λ entry. IsEnd entry.upper) }
 {
-    let broken = Err(ClaimFault::Record(n as u32 + 1));
+    let broken = ClaimFault::Record(n as u32 + 1);
     if row.len() != 3 {
-        return broken;
+        return Err(broken);
     }
     let (Some(patch), Some(lower), Some(upper)) =
         (number_in(row, 0), number_in(row, 1), number_in(row, 2))
     else {
-        return broken;
+        return Err(broken);
     };
     if lower > GREATEST_END || upper > GREATEST_END {
-        return broken;
+        return Err(broken);
     }
     if patch != n as u128 {
         return Err(ClaimFault::Order(n as u32 + 1));
