@@ -3,3 +3,4 @@ pub mod Digits
 pub mod Entries
 pub mod Records
 pub mod Taking
+pub mod Texts

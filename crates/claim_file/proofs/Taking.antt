@@ -1,12 +1,14 @@
 -- What a reader of a text in memory answers, and which records it has left then.
-use Rattle.std.proofs.Common.{ℕ, ◌+◌, ◌<◌, ◌≡◌, ◌∙◌, refl, sym, ap, List, [], ◌∷◌, length, Bool, true, false, Option, Some, None, Bor, inl, add-one, arith}
+use Rattle.std.proofs.Common.{ℕ, ◌+◌, ◌<◌, ◌≡◌, ◌∙◌, refl, sym, ap, List, [], ◌∷◌, length, Bool, true, false, Option, Some, None, Bor, ◌⊎◌, inl, inr, add-one, arith}
 use Rattle.std.specs.Prelude.{IfSome}
 use Rattle.csv.specs.Machine.{Read, ends_at_end, next_record}
 use Rattle.csv.specs.Reading.{NextIs, ReadRecord, ReadsNext, TookRecord, default_config, expected_len, is_flexible, pending_of, reader_state, records_from, source_of, took_first}
 use Rattle.csv.specs.declared.reader.Reader.{Reader}
 use Rattle.csv.specs.declared.parser.State.{State}
 use Rattle.csv.proofs.ReadFacts.{rows-end}
-use Rattle.claim_file.specs.Rows.{IsAt, IsTaken, IsUneven, bytes_left, records_at, rows_left}
+use Rattle.claim_file.specs.declared.rows.Taken.{Taken}
+use Rattle.claim_file.specs.declared.rows.Taken.TheVariants as answer
+use Rattle.claim_file.specs.Rows.{Answers, IsAt, IsTaken, IsUneven, bytes_left, records_at, rows_left}
 use Rattle.claim_file.proofs.Records.{is_after, same_records, takes_a_byte}
 
 -- ---- states and bytes
@@ -90,3 +92,29 @@ uneven old new fields width at expected other took =
 pub ended : (old new : Reader (Bor (List ℕ))) (fields : List (List ℕ)) → IsAt old → ReadRecord bytes_left old new false fields → rows_left old ≡ []
 ended old new fields at r =
     first_is old at.bytes [] at.known (none_is (reader_state old) at.bytes (rows-end bytes_left old new fields default_config at.bytes at.config at.known r))
+
+-- ---- what an answer says
+
+pub as_record : (t : Taken) (old new : Reader (Bor (List ℕ))) (fields : List (List ℕ)) → t ≡ answer.Record → Answers t old new fields → IsTaken old new fields
+unfolding Answers
+as_record t old new fields e h = rw e at h
+
+pub as_uneven : (t : Taken) (old new : Reader (Bor (List ℕ))) (fields : List (List ℕ)) → t ≡ answer.OtherLength → Answers t old new fields → IsUneven old
+unfolding Answers
+as_uneven t old new fields e h = rw e at h
+
+pub as_end : (t : Taken) (old new : Reader (Bor (List ℕ))) (fields : List (List ℕ)) → t ≡ answer.End → Answers t old new fields → rows_left old ≡ []
+unfolding Answers
+as_end t old new fields e h = rw e at h
+
+pub as_wide : (expected : Option ℕ) (width size : ℕ) → expected ≡ Some width → IfSome expected (λ e. size ≡ e) → size ≡ width
+as_wide expected width size e h = rw e at h
+
+pub not_as_wide : (u width size : ℕ) (expected : Option ℕ) → expected ≡ Some u → expected ≡ Some width → (size ≡ u → ⊥) → size ≡ width → ⊥
+not_as_wide u width size expected e f other is = other (cc)
+
+-- a record is left, whether it was taken or not
+pub as_some : (t : Taken) (old new : Reader (Bor (List ℕ))) (fields : List (List ℕ)) → (t ≡ answer.Record) ⊎ (t ≡ answer.OtherLength)
+    → Answers t old new fields → (next : List (List ℕ)) × (rest : List (List (List ℕ))) × (rows_left old ≡ next ∷ rest)
+as_some t old new fields (inl e) h = (fields, rows_left new, (as_record t old new fields e h).rows)
+as_some t old new fields (inr e) h = let u = as_uneven t old new fields e h in (u.fields, u.more, u.rows)

@@ -31,7 +31,7 @@ AreRows width n (fields ∷ rows) (e ∷ es) = (length fields ≡ width) × IsRo
 -- a header and those records; a text of no record says a claim for no patch
 unfoldable pub IsClaimText : ℕ → List (List (List ℕ)) → List Entry → Type 0
 IsClaimText patches [] entries = (entries ≡ []) × (patches ≡ 0)
-IsClaimText patches (head ∷ rows) entries = (length entries ≡ patches) × AreRows (length head) 0 rows entries
+IsClaimText patches (head ∷ rows) entries = (length rows ≡ patches) × AreRows (length head) 0 rows entries
 
 -- a text is read as a claim exactly where its records fit one
 abbrev pub ClaimIsRead : Type 0

@@ -5,6 +5,7 @@ pub mod Fits
 pub mod Numbers
 pub mod Rows
 pub mod Steps
+pub mod Writers
 pub mod Written
 
 mod ClaimTests
