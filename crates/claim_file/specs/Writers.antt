@@ -1,6 +1,5 @@
 -- A writer of CSV into a list of bytes, and what is written.
-use Rattle.std.specs.Prelude.{ℕ, ◌≡◌, false, List, ◌++◌}
-use Rattle.std.specs.Vec.{Vec}
+use Rattle.std.specs.Prelude.{ℕ, ◌≡◌, false, List, ◌++◌, Vec}
 use Rattle.std.specs.declared.alloc.Global.{Global}
 use Rattle.csv.specs.Writing.{default_writer, fields_written, has_written, writer_pending, writer_setup, writer_under}
 use Rattle.csv.specs.declared.writer.Writer.{Writer}
