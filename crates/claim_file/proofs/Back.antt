@@ -1,7 +1,6 @@
 -- What is written of bounds is read again as the same bounds.
-use Rattle.std.proofs.Common.{ℕ, zero, suc, ◌+◌, ◌^◌, ◌<◌, ◌≤◌, ◌≡◌, ◌∙◌, refl, sym, ap, subst, arith, List, [], ◌∷◌, length, map, All, Some, zero-add}
+use Rattle.std.proofs.Common.{ℕ, zero, suc, ◌+◌, ◌^◌, ◌<◌, ◌≤◌, ◌≡◌, ◌∙◌, refl, ap, arith, List, [], ◌∷◌, length, map, All, Some, zero-add}
 use Rattle.std.specs.Fmt.{decimal}
-use Rattle.std.specs.Prelude.{Result, Ok, pos}
 use Rattle.std.proofs.lemmas.List.Elements.{All-head, All-tail}
 use Rattle.csv.specs.Machine.{next_record}
 use Rattle.csv.specs.Reading.{default_config, records, records_from, strip_bom}
@@ -13,9 +12,8 @@ use Rattle.fx_base.specs.Units.{natural}
 use Rattle.fx_base.specs.declared.Tick.{Tick}
 use Rattle.fx_base.proofs.Rounding.{natural_most}
 use Rattle.claim_file.specs.declared.entry.Entry.{Entry}
-use Rattle.claim_file.specs.declared.fault.ClaimFault.{ClaimFault}
 use Rattle.claim_file.specs.Numbers.{number}
-use Rattle.claim_file.specs.Claims.{Claim, claim_after, claim_of, claim_with}
+use Rattle.claim_file.specs.Claims.{claim_of}
 use Rattle.claim_file.specs.Fits.{AreRows, IsClaimText, IsRow, WrittenIsRead}
 use Rattle.claim_file.specs.Written.{claim_bytes, claim_rows, digits_of, header, rows_text}
 use Rattle.claim_file.proofs.Decimals.{number-decimal}
@@ -105,12 +103,11 @@ rows_say : (n : ℕ) (lower upper : List Tick) → length upper ≡ length lower
 unfolding AreRows claim_rows
 rows_say n [] upper e few low high = tt
 rows_say n (l ∷ lower) [] e few low high = absurd (omega arith)
-rows_say n (l ∷ lower) (u ∷ upper) e few low high =
-    (
-      refl,
-      row_says n l u (omega arith) (All-head IsEnd l lower low) (All-head IsEnd u upper high),
-      rows_say (n + 1) lower upper (omega arith) (omega arith) (All-tail IsEnd l lower low) (All-tail IsEnd u upper high),
-    )
+rows_say n (l ∷ lower) (u ∷ upper) e few low high = (
+  refl,
+  row_says n l u (omega arith) (All-head IsEnd l lower low) (All-head IsEnd u upper high),
+  rows_say (n + 1) lower upper (omega arith) (omega arith) (All-tail IsEnd l lower low) (All-tail IsEnd u upper high),
+)
 
 text_fits : (lower upper : List Tick) → length upper ≡ length lower → length lower ≤ 2048 → All IsEnd lower → All IsEnd upper
     → IsClaimText (length lower) (header ∷ claim_rows 0 lower upper) (entries lower upper)

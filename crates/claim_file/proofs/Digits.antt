@@ -1,12 +1,12 @@
 -- The number that a field writes, in steps of one digit, each cut at 2^90 + 1.
-use Rattle.std.proofs.Common.{ℕ, ◌+◌, ◌-◌, ◌*◌, ◌<◌, ◌≤◌, ◌≡◌, ◌∙◌, refl, sym, ap, List, [], ◌∷◌, length, Bool, true, false, Option, Some, None, min, arith, inl, inr, ◌^◌, suc, drop, get_or, add-one}
+use Rattle.std.proofs.Common.{ℕ, ◌+◌, ◌<◌, ◌≤◌, ◌≡◌, ◌∙◌, refl, sym, ap, List, [], ◌∷◌, length, true, false, Option, Some, None, arith, inl, inr, ◌^◌, suc, drop, get_or, add-one}
 use Rattle.std.proofs.Math.Seq.{drop-cons}
 use Rattle.std.proofs.lemmas.List.{drop_all}
 use Rattle.std.specs.Prelude.{option_map, fold}
 use Rattle.std.specs.Char.{is_ascii_digit}
 use Rattle.std.specs.List.{list_all}
 use Rattle.std.proofs.lemmas.Bool.{cases_Bool}
-use Rattle.claim_file.specs.Numbers.{begins_well, capped, number, number_after, with_digit}
+use Rattle.claim_file.specs.Numbers.{capped, number_after, with_digit}
 
 -- a number that is cut before a digit is put to it is cut no less after it
 cut_again : (n b : ℕ) → capped (with_digit (capped n) b) ≡ capped (with_digit n b)

@@ -1,5 +1,5 @@
 -- What the records that are left say, put behind what was read.
-use Rattle.std.proofs.Common.{ℕ, zero, suc, ◌+◌, ◌<◌, ◌≤◌, ◌≡◌, ◌∙◌, refl, sym, ap, List, [], ◌∷◌, ◌++◌, length, Bool, true, false, arith, append_assoc, map, eq-eqb, ◌==◌}
+use Rattle.std.proofs.Common.{ℕ, suc, ◌+◌, ◌<◌, ◌≡◌, refl, List, [], ◌∷◌, ◌++◌, length, arith, append_assoc, map, eq-eqb}
 use Rattle.std.specs.Prelude.{Result, Ok, Err}
 use Rattle.std.proofs.lemmas.List.{append-nil}
 use Rattle.std.proofs.lemmas.Bool.{lt-leb, lt-ltb, ne_eqb}
@@ -8,7 +8,7 @@ use Rattle.claim_file.specs.declared.entry.Entry.{Entry}
 use Rattle.claim_file.specs.declared.fault.ClaimFault.{ClaimFault}
 use Rattle.claim_file.specs.declared.fault.ClaimFault.TheVariants as fault
 use Rattle.claim_file.specs.Claims.{Claim, claim_from, claim_with, entries_of, entry_in, entry_of}
-use Rattle.claim_file.specs.Steps.{◌>>=◌, demand}
+use Rattle.claim_file.specs.Steps.{◌>>=◌}
 
 -- the bounds of these patches behind those
 abbrev pub behind : List Tick → List Tick → Result (List Entry) ClaimFault → Result Claim ClaimFault

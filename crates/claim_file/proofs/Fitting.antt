@@ -1,6 +1,6 @@
 -- A text is read as a claim exactly where its records fit one.
-use Rattle.std.proofs.Common.{ℕ, ◌+◌, ◌^◌, ◌<◌, ◌≤◌, ◌≡◌, ◌∙◌, refl, sym, ap, subst, arith, List, [], ◌∷◌, length, Bool, true, false, Option, Some, None, ◌==◌, ◌&&◌, eq-eqb}
-use Rattle.std.specs.Prelude.{ℤ, pos, negsuc, ◌≤ℤ◌, Result, Ok, Err, nat_le, ◌↔◌}
+use Rattle.std.proofs.Common.{ℕ, ◌+◌, ◌^◌, ◌≤◌, ◌≡◌, ◌∙◌, refl, sym, ap, subst, arith, List, [], ◌∷◌, length, Bool, true, false, Option, Some, None, ◌==◌, ◌&&◌, eq-eqb}
+use Rattle.std.specs.Prelude.{ℤ, pos, negsuc, ◌≤ℤ◌, Result, Ok, Err}
 use Rattle.std.proofs.lemmas.Bool.{eqb-true, leb-true, le-leb, lt-ltb}
 use Rattle.std.proofs.lemmas.Int.{ints}
 use Rattle.csv.specs.Records.{field_at}
@@ -212,8 +212,7 @@ fits_after patches (header ∷ rows) es h = fits_from patches (length header) ro
 
 pub claim_is_read : ClaimIsRead
 unfolding claim_of
-claim_is_read bytes patches claim =
-    (
-      λ h. after_fits patches (records default_config (strip_bom bytes)) claim h,
-      λ f. fits_after patches (records default_config (strip_bom bytes)) f.0 f.1 ∙ ap (λ (x : Claim). ok x) (sym f.2),
-    )
+claim_is_read bytes patches claim = (
+  λ h. after_fits patches (records default_config (strip_bom bytes)) claim h,
+  λ f. fits_after patches (records default_config (strip_bom bytes)) f.0 f.1 ∙ ap (λ (x : Claim). ok x) (sym f.2),
+)

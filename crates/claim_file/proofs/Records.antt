@@ -1,8 +1,8 @@
 -- Every record of a text: from a state between two records, any number of turns above the number of bytes finds the same ones.
-use Rattle.std.proofs.Common.{ℕ, zero, suc, ◌+◌, ◌<◌, ◌≤◌, ◌≡◌, ◌==◌, refl, sym, ap, subst, arith, List, [], ◌∷◌, length, Bool, true, false, Option, Some, None, inl, inr, ◌⊎◌}
+use Rattle.std.proofs.Common.{ℕ, zero, suc, ◌<◌, ◌≤◌, ◌≡◌, ◌==◌, refl, ap, subst, arith, List, [], ◌∷◌, length, Bool, true, false, Option, Some, None, inl, inr}
 use Rattle.std.specs.Prelude.{if◌then◌else◌}
 use Rattle.std.proofs.lemmas.Bool.{cases_Bool}
-use Rattle.csv.specs.Machine.{Read, after_end, ends_at_end, ends_with, in_field, is_end, next_record, start_field, start_record, step, field_after, fields_after}
+use Rattle.csv.specs.Machine.{Read, after_end, ends_at_end, ends_with, in_field, is_end, next_record, start_field, start_record, step, fields_after}
 use Rattle.csv.specs.Reading.{default_config, records_from, records_next}
 use Rattle.csv.specs.declared.parser.State.{State}
 use Rattle.csv.specs.declared.parser.State.TheVariants as st
@@ -32,7 +32,7 @@ start_field_settles c = either (c == 34) (st.InQuoted, act.Skip) (in_field defau
 
 start_record_settles : (c : ℕ) → Settles (start_record default_config c)
 start_record_settles c =
-    either (ends_with term.CRLF c) (st.StartRecord, act.Skip) (start_field default_config c) (λ e. cc e) (start_field_settles c)
+    either (ends_with term.CRLF c) (st.StartRecord, act.Skip) (start_field default_config c) (λ e. refl) (start_field_settles c)
 
 step_settles : (s : State) (c : ℕ) → Settles (step default_config s c)
 step_settles st.StartRecord c = start_record_settles c
@@ -41,8 +41,8 @@ step_settles st.InField c = in_field_settles c
 step_settles st.InQuoted c = either (c == 34) (st.AfterQuote, act.Skip) (st.InQuoted, act.Copy) (λ e. cc e) (λ e. cc e)
 step_settles st.InEscape c = λ e. cc e
 step_settles st.AfterQuote c = either (c == 34) (st.InQuoted, act.Copy) (in_field default_config c) (λ e. cc e) (in_field_settles c)
-step_settles st.InComment c = either (c == 10) (st.StartRecord, act.Skip) (st.InComment, act.Skip) (λ e. cc e) (λ e. cc e)
-step_settles st.AfterCr c = either (c == 10) (st.StartRecord, act.Skip) (start_record default_config c) (λ e. cc e) (start_record_settles c)
+step_settles st.InComment c = either (c == 10) (st.StartRecord, act.Skip) (st.InComment, act.Skip) (λ e. refl) (λ e. cc e)
+step_settles st.AfterCr c = either (c == 10) (st.StartRecord, act.Skip) (start_record default_config c) (λ e. refl) (start_record_settles c)
 
 -- ---- what stands after a record
 
@@ -66,7 +66,7 @@ is_after s fields field [] p e = at_last (ends_at_end s) [] _ p (record { betwee
 is_after s fields field (c ∷ rest) p e = elim (cases_Bool (is_end (step default_config s c).1)) [
   | inl ends ↦
       the_same (c ∷ rest) (fields_after (step default_config s c).1 fields field, (step default_config s c).0, rest) p
-          (record { between = step_settles s c ends; shorter = omega arith }) (rw ends at e)
+      (record { between = step_settles s c ends; shorter = omega arith }) (rw ends at e)
   | inr goes ↦ longer c rest p (is_after (step default_config s c).0 _ _ rest p (rw goes at e))
 ]
 

@@ -1,5 +1,5 @@
 -- What a reader of a text in memory answers, and which records it has left then.
-use Rattle.std.proofs.Common.{ℕ, ◌+◌, ◌<◌, ◌≡◌, ◌∙◌, refl, sym, ap, List, [], ◌∷◌, length, Bool, true, false, Option, Some, None, Bor, ◌⊎◌, inl, inr, add-one, arith}
+use Rattle.std.proofs.Common.{ℕ, ◌+◌, ◌<◌, ◌≡◌, ◌∙◌, refl, sym, ap, List, [], ◌∷◌, length, true, false, Option, Some, None, Bor, ◌⊎◌, inl, inr, add-one, arith}
 use Rattle.std.specs.Prelude.{IfSome}
 use Rattle.csv.specs.Machine.{Read, ends_at_end, next_record}
 use Rattle.csv.specs.Reading.{NextIs, ReadRecord, ReadsNext, TookRecord, default_config, expected_len, is_flexible, pending_of, reader_state, records_from, source_of, took_first}
@@ -22,7 +22,7 @@ found_is s s2 xs ys fields (Some p) b e r =
     let shorter : length p.2 < length xs = takes_a_byte s xs p b e in (
       rw r.2 between,
       rw (r.1, r.2, r.3, add-one (length xs), e)
-      (ap (λ (rows : List (List (List ℕ))). p.0 ∷ rows) (same_records (length xs) (length p.2 + 1) p.1 p.2 between shorter (omega arith))),
+          (ap (λ (rows : List (List (List ℕ))). p.0 ∷ rows) (same_records (length xs) (length p.2 + 1) p.1 p.2 between shorter (omega arith))),
     )
 
 -- a read that found a record

@@ -1,5 +1,5 @@
 -- A claim's text and the records of a fresh reader of it.
-use Rattle.std.proofs.Common.{ℕ, ◌≡◌, ◌∙◌, refl, sym, ap, List, [], ◌∷◌, length, Some, Bor, ◌==◌, eq-eqb}
+use Rattle.std.proofs.Common.{ℕ, ◌≡◌, ◌∙◌, refl, sym, List, [], ◌∷◌, length, Some, Bor}
 use Rattle.std.specs.Prelude.{Ok, Err}
 use Rattle.std.proofs.lemmas.Bool.{ne_eqb}
 use Rattle.csv.specs.Reading.{default_config, reader_state, records, source_of, strip_bom}

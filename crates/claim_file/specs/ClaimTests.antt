@@ -1,13 +1,13 @@
 -- What small claim files say, computed: one patch or two, and each fault with its record.
-use Rattle.std.specs.Prelude.{ℕ, ◌≡◌, List, [], ◌∷◌, ◌++◌, codes, pos, refl, Result, Ok, Err}
+use Rattle.std.specs.Prelude.{ℕ, ◌≡◌, List, [], ◌∷◌, ◌++◌, codes, refl, Ok, Err}
 use Rattle.csv.proofs.OnLiterals.{csv_on_literals}
-use Rattle.claim_file.specs.declared.fault.ClaimFault.{ClaimFault}
+use Rattle.csv.specs.Records.{field_at}
 use Rattle.claim_file.specs.declared.fault.ClaimFault.TheVariants as fault
 use Rattle.claim_file.specs.Numbers.{number, number_after}
 use Rattle.claim_file.specs.Claims.{Claim, claim_after, claim_from, claim_of, entries_of, entry_in, entry_of, tick}
 
 unfoldable computed : Unit {0}
-unfolding csv_on_literals number number_after claim_after claim_from claim_of entries_of entry_in entry_of
+unfolding csv_on_literals field_at number number_after claim_after claim_from claim_of entries_of entry_in entry_of
 computed = tt
 
 abbrev with_line : List ℕ → List ℕ → List ℕ

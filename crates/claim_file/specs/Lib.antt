@@ -7,5 +7,4 @@ pub mod Rows
 pub mod Steps
 pub mod Writers
 pub mod Written
-
 mod ClaimTests

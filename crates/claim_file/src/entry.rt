@@ -39,9 +39,11 @@ pub(crate) fn read_entry(row: &ByteRecord, n: usize) -> Result<Entry, ClaimFault
     if row.len() != 3 {
         return Err(broken);
     }
-    let (Some(patch), Some(lower), Some(upper)) =
-        (number_in(row, 0), number_in(row, 1), number_in(row, 2))
-    else {
+    let (Some(patch), Some(lower), Some(upper)) = (
+        number_in(row, 0),
+        number_in(row, 1),
+        number_in(row, 2),
+    ) else {
         return Err(broken);
     };
     if lower > GREATEST_END || upper > GREATEST_END {

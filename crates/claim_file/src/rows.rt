@@ -18,7 +18,10 @@ pub(crate) enum Taken {
 
 /// The next record. After any other answer than `Record` the reader isn't to be asked again. That a slice can't fail to be read is
 /// known to no clause; such a failure would be told as want of memory.
-pub(crate) fn take_record(reader: &mut Reader<&[u8]>, row: &mut ByteRecord) -> Result<Taken, ClaimFault>
+pub(crate) fn take_record(
+    reader: &mut Reader<&[u8]>,
+    row: &mut ByteRecord,
+) -> Result<Taken, ClaimFault>
     requires at { IsAt reader.old }
     ensures taken { IfOk result (λ taken. Answers taken reader.old reader.new (fields_of row.new)) }
     ensures memory { IfErr result (λ e. e ≡ ClaimFault.Memory) }

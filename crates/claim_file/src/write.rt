@@ -56,7 +56,11 @@ pub fn claim_text(alloc: Global, bounds: &Bounds) -> Result<Vec<u8>, Memory>
         ≡ Ok (record { lower = bounds.now.lower.items; upper = bounds.now.upper.items })) }
 {
     let mut writer = WriterBuilder::new().from_writer(Vec::new(alloc));
-    let header = [b"patch".as_slice(), b"lower".as_slice(), b"upper".as_slice()];
+    let header = [
+        b"patch".as_slice(),
+        b"lower".as_slice(),
+        b"upper".as_slice(),
+    ];
     put_record(&mut writer, &header)?;
     for n in 0..bounds.lower.len() {
         put_patch(alloc, &mut writer, n, bounds.lower[n], bounds.upper[n])?;

@@ -1,5 +1,5 @@
 -- What of `digits` wants a proof by hand.
-use Rattle.std.proofs.Common.{◌≡◌, ◌∙◌, ◌^◌, ◌+◌, ◌≤◌, arith, refl, sym, ap, get_or, Some, None, Option, ℕ}
+use Rattle.std.proofs.Common.{◌∙◌, arith, refl, sym, ap, Option, ℕ}
 use Rattle.std.specs.Prelude.{option_map}
 use Rattle.claim_file.specs.Numbers.{capped}
 use Rattle.claim_file.proofs.Digits.{is_over, next_digit, not_a_digit}

@@ -1,5 +1,5 @@
 -- What of `read_claim` wants a proof by hand.
-use Rattle.std.proofs.Common.{◌≡◌, ◌∙◌, sym, ap, arith, length, rules, ℕ, Some, Option, None}
+use Rattle.std.proofs.Common.{◌≡◌, ◌∙◌, sym, ap, ℕ, Some, None}
 use Rattle.csv.specs.Reading.{expected_len}
 use Rattle.csv.specs.Records.{fields_of}
 use Rattle.claim_file.specs.Rows.{rows_left}

@@ -1,12 +1,10 @@
 -- What of `read_entries` wants a proof by hand.
-use Rattle.std.proofs.Common.{◌≡◌, ◌∙◌, sym, ap, All, arith, length, rules, List, [], ◌∷◌, ◌++◌, ℕ, Some}
-use Rattle.std.specs.Prelude.{Ok, Err}
+use Rattle.std.proofs.Common.{◌≡◌, ◌∙◌, sym, ap, arith, length, rules, [], ◌∷◌, ◌++◌, ℕ, Some}
 use Rattle.std.proofs.lemmas.List.Elements.{All-push}
 use Rattle.csv.specs.Reading.{expected_len}
 use Rattle.csv.specs.Records.{fields_of}
 use Rattle.fx_base.specs.Bound.{IsEnd}
 use Rattle.claim_file.specs.Rows.{rows_left}
-use Rattle.claim_file.specs.Claims.{entry_in}
 use Rattle.claim_file.proofs.Taking.{as_end, as_record, as_some, as_uneven, as_wide, not_as_wide}
 use Rattle.claim_file.proofs.Entries.{all_read, at_first, missing, one_more, refused, too_many, uneven}
 use Rattle.claim_file.proofs.read.read_entries.Goals as goal

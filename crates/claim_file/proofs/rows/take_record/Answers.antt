@@ -1,5 +1,5 @@
 -- What of `take_record` wants a proof by hand.
-use Rattle.std.proofs.Common.{◌≡◌, ◌∙◌, sym, length}
+use Rattle.std.proofs.Common.{◌∙◌, sym}
 use Rattle.csv.specs.Records.{fields_of}
 use Rattle.claim_file.specs.Rows.{Answers}
 use Rattle.claim_file.proofs.Taking.{ended, taken, uneven}

@@ -1,10 +1,7 @@
 -- What of `claim_text` wants a proof by hand.
-use Rattle.std.proofs.Common.{◌≡◌, ◌∙◌, ◌++◌, sym, ap, arith, length, rules, ℕ, List, [], ◌∷◌, refl}
-use Rattle.csv.specs.Writing.{default_writer, row_text}
-use Rattle.fx_base.specs.declared.Tick.{Tick}
-use Rattle.claim_file.specs.Claims.{claim_of, tick}
+use Rattle.std.proofs.Common.{◌≡◌, ◌∙◌, ◌++◌, sym, ap, arith, ℕ, List}
 use Rattle.claim_file.specs.Writers.{written}
-use Rattle.claim_file.specs.Written.{claim_bytes, claim_rows, header, rows_text}
+use Rattle.claim_file.specs.Written.{claim_bytes, claim_rows, rows_text}
 use Rattle.claim_file.proofs.Back.{written_is_read}
 use Rattle.claim_file.proofs.Writing.{all_written, header_first, patch_more}
 use Rattle.claim_file.proofs.write.claim_text.Goals as goal
@@ -22,7 +19,7 @@ loop-n-init c =
     record {
       plain = c.in_ok-put_record.ensures.plain;
       so_far = header_first c.args.bounds.now.lower.items c.args.bounds.now.upper.items
-      ∙ ap (λ (t : List ℕ). t ++ rows_text (claim_rows 0 c.args.bounds.now.lower.items c.args.bounds.now.upper.items)) (sym head);
+          ∙ ap (λ (t : List ℕ). t ++ rows_text (claim_rows 0 c.args.bounds.now.lower.items c.args.bounds.now.upper.items)) (sym head);
     }
 
 pub loop-n-preserved : goal.loop-n-preserved
@@ -30,8 +27,8 @@ loop-n-preserved c =
     record {
       plain = c.in_ok-put_patch.ensures.plain;
       so_far = patch_more c.loop-n.n c.args.bounds.now.lower.items c.args.bounds.now.upper.items c.index.result.now c.index-in-loop-n.result.now
-      (claim_bytes c.args.bounds.now.lower.items c.args.bounds.now.upper.items) (written c.loop-n.writer) (written c.put_patch.new.writer)
-      (omega arith) (omega arith) c.index.ensures c.index-in-loop-n.ensures c.loop-n.invariant.so_far c.in_ok-put_patch.ensures.text;
+          (claim_bytes c.args.bounds.now.lower.items c.args.bounds.now.upper.items) (written c.loop-n.writer) (written c.put_patch.new.writer)
+          (omega arith) (omega arith) c.index.ensures c.index-in-loop-n.ensures c.loop-n.invariant.so_far c.in_ok-put_patch.ensures.text;
     }
 
 pub returns-in-Ok-clause-text : goal.returns-in-Ok-clause-text
