@@ -13,3 +13,4 @@ pub mod Turned
 pub mod NearEnough
 pub mod Iterates
 pub mod Compose
+pub mod Shows

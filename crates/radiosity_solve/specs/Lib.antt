@@ -4,5 +4,7 @@ pub mod Bounds
 pub mod SolveFault
 pub mod Turn
 pub mod Composition
+pub mod Claim
 mod ShownTests
+mod ClaimTests
 mod BoundsTests

@@ -1,6 +1,7 @@
 //! The laws of the equations and of their bounds: a law is the contract of a function that does nothing.
 ghost use Rattle.radiosity_solve.specs.Laws.{OneSolution, Comparison, OneFractionSolution, OneLight, FractionComparison};
 ghost use Rattle.radiosity_solve.specs.Composition.{LowerIsBelow, UpperIsAbove, LowerIsWithin, UpperIsWithin, RowsAreBelowOne, ShownClaimHolds};
+ghost use Rattle.radiosity_solve.specs.Claim.{ShownClaimBounds};
 
 /// Equations with row sums below one have exactly one solution, of either sign; it isn't negative where the light isn't.
 pub fn one_solution()
@@ -56,4 +57,10 @@ pub fn rows_below_one()
 /// A shown claim holds every solution of every system in the intervals, whoever made it.
 pub fn shown_claim_holds()
     ensures { ShownClaimHolds }
+{}
+
+/// A claim of which `holds` answers Ok holds every solution of every system in the intervals, and its lower bounds aren't above its
+/// upper ones.
+pub fn shown_claim_bounds()
+    ensures { ShownClaimBounds }
 {}

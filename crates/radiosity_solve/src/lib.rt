@@ -3,6 +3,7 @@
 #![tactic(auto)]
 
 mod bounds;
+mod claim;
 mod fault;
 mod guide;
 pub mod laws;
@@ -12,6 +13,7 @@ mod trial;
 mod turn;
 
 pub use bounds::{Bounds, solve};
+pub use claim::holds;
 pub use fault::SolveFault;
 
 #[cfg(test)]

@@ -1,8 +1,9 @@
 //! Bounds of small systems, against their solutions worked out by hand.
-ghost use Rattle.std.specs.Prelude.{◌≡◌, ℕ, ◌+◌, ◌<◌, ◌≤◌, ◌^◌, length, IfOk};
+ghost use Rattle.std.specs.Prelude.{◌≡◌, ℕ, ◌+◌, ◌<◌, ◌≤◌, ◌^◌, length, All, IfOk};
+ghost use Rattle.fx_base.specs.Bound.{IsEnd};
 ghost use Rattle.interval_system.specs.System.{IsWeight};
 
-use crate::{Bounds, SolveFault, solve};
+use crate::{Bounds, SolveFault, holds, solve};
 use fx_base::{Memory, Span, Tick, Weight, tick_of};
 use interval_system::{Heavy, IntervalSystem};
 use std::alloc::Global;
@@ -140,5 +141,65 @@ fn fifty_patches_have_the_solutions_of_an_exact_elimination(rt: HostRuntime) -> 
     assert!(rt; encloses(&bounds, 0, 84_382_489_518_876, 85_083_423_008_705));
     assert!(rt; encloses(&bounds, 17, 84_770_086_669_770, 85_471_003_351_787));
     assert!(rt; encloses(&bounds, 49, 87_708_820_527_775, 88_409_753_649_798));
+    Ok(())
+}
+
+/// Two patches: h0 = 1 + h1 / 2 and h1 = h0 / 4, with weights whose upper ends are a tick more.
+fn two_patches(alloc: Global) -> Result<IntervalSystem, Memory>
+    ensures { IfOk result (λ system. length system.rows ≡ 2) }
+{
+    let mut system = IntervalSystem::new(alloc, 2)?;
+    let half = Weight {
+        lo: 34_359_738_368,
+        hi: 34_359_738_369,
+    };
+    let quarter = Weight {
+        lo: 17_179_869_184,
+        hi: 17_179_869_185,
+    };
+    system.set_weight(0, 1, half);
+    system.set_weight(1, 0, quarter);
+    system.set_direct(0, Span::whole(1));
+    Ok(system)
+}
+
+/// The light of two patches, in ticks.
+fn light(alloc: Global, first: u128, second: u128) -> Result<Vec<Tick>, Memory>
+    requires first { first ≤ 2 ^ 90 }
+    requires second { second ≤ 2 ^ 90 }
+    ensures size { IfOk result (λ light. length light.items ≡ 2) }
+    ensures ends { IfOk result (λ light. All IsEnd light.items) }
+{
+    let mut light = Vec::new(alloc);
+    light.push(tick_of(first))?;
+    light.push(tick_of(second))?;
+    Ok(light)
+}
+
+// what the claims send, from Python's fractions:
+//
+//     half, quarter, lux = 2**35, 2**34, 2**36
+//     def from_below(h): return lux + floor(F(half * h[1], lux)), floor(F(quarter * h[0], lux))
+//     def from_above(h): return lux + ceil(F((half + 1) * h[1], lux)), ceil(F((quarter + 1) * h[0], lux))
+//     print(from_below([78536544841, 19634136210]), from_above([78536544843, 19634136212]))
+#[test]
+fn a_claim_is_shown_up_to_the_first_row_with_a_tick_too_much_or_too_little(
+    rt: HostRuntime,
+) -> Result<(), Fail> {
+    let system = two_patches(rt.alloc())?;
+    if system.heavy_row().is_none() {
+        let mut claim = Bounds {
+            lower: light(rt.alloc(), 78_536_544_841, 19_634_136_210)?,
+            upper: light(rt.alloc(), 78_536_544_843, 19_634_136_212)?,
+        };
+        assert_eq!(rt; holds(&system, &claim), Ok(()));
+        claim.upper = light(rt.alloc(), 78_536_544_843, 19_634_136_211)?;
+        assert_eq!(rt; holds(&system, &claim), Err(1));
+        claim.upper = light(rt.alloc(), 78_536_544_842, 19_634_136_212)?;
+        assert_eq!(rt; holds(&system, &claim), Err(0));
+        claim.lower = light(rt.alloc(), 78_536_544_841, 19_634_136_211)?;
+        claim.upper = light(rt.alloc(), 78_536_544_843, 19_634_136_212)?;
+        assert_eq!(rt; holds(&system, &claim), Err(1));
+    }
     Ok(())
 }

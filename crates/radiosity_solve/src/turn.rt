@@ -30,7 +30,7 @@ fn greatest_direct(system: &IntervalSystem, i: usize) -> u128
 
 /// The light that `from` gives to patch i by the lower ends, each product rounded down.
 #[tactic(auto, using(crate::proofs::Steps::rows))]
-fn lower_row(system: &IntervalSystem, from: &[Tick], i: usize) -> u128
+pub(crate) fn lower_row(system: &IntervalSystem, from: &[Tick], i: usize) -> u128
     requires row { i < length system.now.rows }
     requires size { length from.now ≡ length system.now.rows }
     requires ends { All IsEnd from.now }
@@ -42,7 +42,7 @@ fn lower_row(system: &IntervalSystem, from: &[Tick], i: usize) -> u128
 
 /// The light that `from` gives to patch i by the upper ends, each product rounded up.
 #[tactic(auto, using(crate::proofs::Steps::rows))]
-fn upper_row(system: &IntervalSystem, from: &[Tick], i: usize) -> u128
+pub(crate) fn upper_row(system: &IntervalSystem, from: &[Tick], i: usize) -> u128
     requires row { i < length system.now.rows }
     requires size { length from.now ≡ length system.now.rows }
     requires ends { All IsEnd from.now }
