@@ -1,11 +1,10 @@
 -- Bounds of the light of a room's patches against the light that solves its equations, exact and loose, and the margin of a claim that
 -- isn't shown.
-use Rattle.std.proofs.Common.{ℕ, ◌+◌, ◌*◌, ◌^◌, ◌<◌, ◌≤◌, ◌≡◌, ◌∙◌, sym, subst, List, length, inl, inr, arith}
-use Rattle.std.specs.Prelude.{◌⊎◌}
+use Rattle.std.proofs.Common.{ℕ, ◌+◌, ◌*◌, ◌^◌, ◌<◌, ◌≤◌, ◌≡◌, ◌∙◌, subst, List, length, inl, inr, arith}
 use Rattle.std.proofs.lemmas.Bool.{cases_lt}
 use Rattle.fx_base.specs.declared.Tick.{Tick}
-use Rattle.fx_base.specs.Fraction.{Fraction, ◌≤ᶠ◌, ◌<ᶠ◌, ◌+ᶠ◌, ◌*ᶠ◌, whole}
-use Rattle.fx_base.specs.Interval.{Meets, LiesIn, outward}
+use Rattle.fx_base.specs.Fraction.{◌≤ᶠ◌, ◌<ᶠ◌, ◌+ᶠ◌, ◌*ᶠ◌, whole}
+use Rattle.fx_base.specs.Interval.{LiesIn}
 use Rattle.fx_base.specs.Rounded.{down_to, up_to}
 use Rattle.fx_base.specs.Units.{ticks}
 use Rattle.fx_base.proofs.Order.{le_refl_f, le_trans_f, le_lt_trans_f, lt_le_trans_f, add_le_f, add_lt_f, sub_le_f}
@@ -15,7 +14,6 @@ use Rattle.interval_system.specs.System.{NoneHeavy, weight_at, low_weight, high_
 use Rattle.interval_system.specs.Ticks.{tick_at}
 use Rattle.interval_system.specs.Whole.{total}
 use Rattle.radiosity_solve.specs.Bounds.{IsLowerAnswer, IsUpperAnswer, ticks_solution, ten_thousandth}
-use Rattle.radiosity_solve.specs.Claim.{IsShown, IsShownAt, IsFirstNotShown}
 use Rattle.radiosity_solve.specs.Shown.{IsShownLower, IsShownUpper}
 use Rattle.radiosity_solve.specs.Turn.{next_low, next_high}
 use Rattle.radiosity_solve.proofs.Compose.{lower_below, upper_above, lower_within, upper_within, rows_are_below_one}
@@ -26,7 +24,7 @@ use Rattle.scene_system.specs.Assembled.{Numbers, IsSceneOf, IsWellFormed}
 use Rattle.scene_system.specs.Scene.{patch_count, patch_place, patch_face, radiosity, loose_radiosity}
 use Rattle.scene_system.proofs.Rows.{rows_below, rows_are, weight_close}
 use Rattle.grid_report.specs.BoundsLaws.{BoundsHoldLight, ShownHoldsLight, UnshownHasCause}
-use Rattle.grid_report.specs.PatchBounds.{light_at, bounds_at, low_sum, high_sum, HasLittleMargin, HoldLight, AreNearLight, MayBeUnshown}
+use Rattle.grid_report.specs.PatchBounds.{low_sum, high_sum, HoldLight, AreNearLight}
 use Rattle.grid_report.proofs.Near.{lower_is, upper_is}
 use Rattle.grid_report.proofs.PointSums.{lower_sum_near, upper_sum_near}
 
@@ -187,8 +185,8 @@ unshown_has_cause tables room s lower upper row accepted exact formed scene ligh
       cause = λ n deep. elim (cases_lt (next_low s.system lower row) (tick_at lower row)) [
         | inl past ↦ inl (lower_past n tables room s lower row b inside past)
         | inr below ↦ elim (cases_lt (tick_at upper row) (next_high s.system upper row)) [
-            | inl past ↦ inr (upper_past n tables room s upper row b inside past)
-            | inr above ↦ absurd (first.not_shown (record { below = below; above = above }))
-          ]
+          | inl past ↦ inr (upper_past n tables room s upper row b inside past)
+          | inr above ↦ absurd (first.not_shown (record { below = below; above = above }))
+        ]
       ];
     }

@@ -8,3 +8,4 @@ pub mod Laws
 pub mod ReportTests
 pub mod PatchBounds
 pub mod BoundsLaws
+pub mod PatchBoundsTests
