@@ -15,3 +15,4 @@ pub mod Shares
 pub mod TickMeans
 pub mod Totals
 pub mod Uniform
+pub mod PatchBounds

@@ -6,3 +6,6 @@ pub mod Reports
 pub mod Headline
 pub mod Laws
 pub mod ReportTests
+pub mod PatchBounds
+pub mod BoundsLaws
+pub mod PatchBoundsTests
