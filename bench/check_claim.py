@@ -10,9 +10,9 @@ bounds send there, and the upper bound at least the same by the upper bounds.
 
 Direct light and coefficients are enclosed far more closely than a tick (pi to 1e-30, angles to 1e-30 degrees, roots to 2^-100, and
 products to 2^-80), and a line is printed only where the enclosures decide it; where they don't, standard error says so and the status
-is 1. `lux check` rounds to whole ticks and outward, so that what it shows is shown here too; a claim that is shown here by less than
-its roundings, about a hundred-thousandth of a lux, may not be shown there. The room and its files are taken to be sound. Files lie
-where their names lead from the room's folder.
+is 1. `lux check` rounds outward, so that what it shows is shown here too; a claim that is shown here by less than its roundings, which
+may come to some thousandths of a lux, may not be shown there. The room and its files are taken to be sound, but for the sums of the
+coefficients. Files lie where their names lead from the room's folder.
 """
 import csv
 import io
@@ -23,6 +23,7 @@ import tomllib
 from collections import namedtuple
 from decimal import Decimal, localcontext
 from fractions import Fraction
+from functools import cache
 from pathlib import Path
 
 from expected import sources, surfaces, tiles
@@ -76,6 +77,7 @@ def read_claim(data, count):
 
 # ---- places in half millimetres, areas in their squares
 
+Box = namedtuple("Box", "lo hi")
 Patch = namedtuple("Patch", "centre face area reflect")
 LampPoint = namedtuple("LampPoint", "at shine turn share")
 
@@ -100,17 +102,16 @@ def squared_distance(p, q):
 
 def stands_between(box, p, q):
     """Whether a point of the segment, ends included, lies in the open inside of the box."""
+    axes = list(zip(box.lo, box.hi, p, q))
+    if any(a <= lo and b <= lo or a >= hi and b >= hi for lo, hi, a, b in axes):
+        return False
+    # it is between the two faces of each axis in this part of the way, over one denominator
     enter, leave, whole = 0, 1, 1
-    for axis in range(3):
-        lo, hi, at, way = 2 * box["lo"][axis], 2 * box["hi"][axis], p[axis], q[axis] - p[axis]
-        if max(at, at + way) <= lo or min(at, at + way) >= hi:
-            return False
+    for lo, hi, a, b in axes:
+        way = abs(b - a)
         if way:
-            # in parts of the way, brought over one denominator with the axes before
-            ends = (lo - at, hi - at) if way > 0 else (at - hi, at - lo)
-            enter = max(enter * abs(way), ends[0] * whole)
-            leave = min(leave * abs(way), ends[1] * whole)
-            whole *= abs(way)
+            ends = (lo - a, hi - a) if b > a else (a - hi, a - lo)
+            enter, leave, whole = max(enter * way, ends[0] * whole), min(leave * way, ends[1] * whole), whole * way
     return enter < leave
 
 
@@ -170,12 +171,13 @@ def lamp_points(lamps, folder):
         yield from (LampPoint(half_mm(at), shine, lamp.get("turn", 0), share) for at in places)
 
 
+@cache
 def arctan(x):
-    """Of a decimal that isn't negative: halved five times, and then by the series."""
+    """Of a decimal from 0 to 1, to 45 digits: halved five times, and then by the series."""
     for _ in range(5):
         x = x / (1 + (1 + x * x).sqrt())
     total = power = x
-    for k in range(3, 60, 2):
+    for k in range(3, 40, 2):
         power *= -x * x
         total += power / k
     return 32 * total
@@ -202,8 +204,7 @@ def candela_ends(lamp, p):
     gamma from straight down; straight up or down C is 0."""
     if isinstance(lamp.shine, int):
         return lamp.shine, lamp.shine
-    with localcontext() as context:
-        context.prec = 50
+    with localcontext(prec=50):
         x, y, z = (Decimal(b - a) for a, b in zip(lamp.at, p))
         cs = [c % 360 for c in candidates(degrees(x, y) - lamp.turn)] if x or y else [Fraction(0)]
         gamma = degrees(-z, (x * x + y * y).sqrt())
@@ -242,8 +243,9 @@ def light_by(row, light, direct):
 
 def check(document, folder, data):
     """The line to print, and the status."""
-    boxes, lights = document.get("box", []), list(lamp_points(document.get("lamp", []), folder))
-    patches = patches_of(document["room"], boxes)
+    patches = patches_of(document["room"], document.get("box", []))
+    boxes = [Box(half_mm(box["lo"]), half_mm(box["hi"])) for box in document.get("box", [])]
+    lights = list(lamp_points(document.get("lamp", []), folder))
     lower, upper = read_claim(data, len(patches))
     reflected = [[p.reflect * bound for p, bound in zip(patches, bounds)] for bounds in (lower, upper)]
     verdicts = []
