@@ -220,9 +220,10 @@ def direct_ends(boxes, lights, p):
         if above > 0 and not blocked(boxes, lamp.at, p.centre):
             square = squared_distance(p.centre, lamp.at)
             root = math.isqrt(square << 2 * ROOT)
-            least, greatest = (candela * lamp.share * above * 4000000 / square * 2 ** (FINE + TICK + ROOT) for candela in candela_ends(lamp, p.centre))
-            low += math.floor(least / (root + 1))
-            high += math.ceil(greatest / root)
+            least, greatest = candela_ends(lamp, p.centre)
+            factor = lamp.share * above * 4000000 / square * 2 ** (FINE + TICK + ROOT)
+            low += math.floor(least * factor / (root + 1))
+            high += math.ceil(greatest * factor / root)
     return low, high
 
 
