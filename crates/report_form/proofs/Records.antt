@@ -1,13 +1,13 @@
 -- The records of a grid, read back.
 use Rattle.std.proofs.Common.{ℕ, zero, suc, ◌+◌, ◌<◌, ◌≡◌, ◌∙◌, List, [], ◌∷◌, ◌++◌, ◌/◌, ◌%◌, length, map, add-one, ap, sym, subst, refl, arith, flat_map, true, false}
-use Rattle.std.specs.Prelude.{slice_index_or, Option, Some, None, decimal, codes}
+use Rattle.std.specs.Prelude.{slice_index_or, Option, Some, None, decimal}
 use Rattle.csv.proofs.RoundTrip.{read-write}
 use Rattle.csv.specs.Machine.{next_record}
 use Rattle.csv.specs.Reading.{default_config, records_from, strip_bom}
 use Rattle.csv.specs.Writing.{default_writer, row_text, read_back, fields_text, is_blank}
 use Rattle.csv.specs.declared.parser.State.TheVariants as state
 use Rattle.decimal_text.specs.Decimals.{hundredths}
-use Rattle.report_form.specs.Grid.{grid_bytes, grid_records, point_record, point_records}
+use Rattle.report_form.specs.Grid.{grid_bytes, grid_records, header, point_record, point_records}
 use Rattle.report_form.specs.Laws.{GridReadsBack, GridShowsEachPoint, ShowsPoint}
 use Rattle.report_form.specs.declared.report.Printed.{Printed}
 use Rattle.report_form.specs.declared.report.Report.{Report}
@@ -17,17 +17,20 @@ use Rattle.report_form.specs.declared.report.Report.{Report}
 abbrev written : List (List (List ℕ)) → List ℕ
 written rows = flat_map (row_text default_writer) rows
 
+-- past the end there are no records
 past_end : (more : ℕ) → records_from default_config more state.StartRecord [] ≡ []
 unfolding records_from next_record
 past_end zero = refl
 past_end (suc more) = refl
 
+-- records that are written are read, and none behind them, except that one without fields is read as one empty field
 read_all : (rows : List (List (List ℕ))) (more : ℕ) → records_from default_config (length rows + more) state.StartRecord (written rows) ≡ map read_back rows
 unfolding records_from
 read_all [] more = let z : 0 + more ≡ more = omega arith in rw z (past_end more)
 read_all (row ∷ rows) more = let n : suc (length rows) + more ≡ suc (length rows + more) = omega arith in
     rw (n, read-write row (written rows)) (ap (λ (t : List (List (List ℕ))). read_back row ∷ t) (read_all rows more))
 
+-- no record of a point is without fields
 records_stay : (columns k : ℕ) (points : List (Option Printed)) → map read_back (point_records columns k points) ≡ point_records columns k points
 unfolding point_records
 records_stay columns k [] = refl
@@ -38,6 +41,7 @@ unfolding point_records
 record_count columns k [] = refl
 record_count columns k (e ∷ more) = ap suc (record_count columns (k + 1) more)
 
+-- the grid begins with no byte order mark
 no_mark : (r : Report) → strip_bom (grid_bytes r) ≡ grid_bytes r
 unfolding strip_bom fields_text is_blank
 no_mark r = refl
@@ -45,10 +49,11 @@ no_mark r = refl
 pub reads_back : GridReadsBack
 reads_back r more =
     let size : length r.points + 1 + more ≡ length (grid_records r) + more = let e = record_count r.columns 0 r.points in omega arith in
-    rw (no_mark r, size) (read_all (grid_records r) more ∙ ap (λ (t : List (List (List ℕ))). Rattle.report_form.specs.Grid.header ∷ t) (records_stay r.columns 0 r.points))
+    rw (no_mark r, size) (read_all (grid_records r) more ∙ ap (λ (t : List (List (List ℕ))). header ∷ t) (records_stay r.columns 0 r.points))
 
 -- ---- the record of a point shows it
 
+-- the record of the k-th of some points
 record_at : (columns j k : ℕ) (points : List (Option Printed)) → k < length points
     → slice_index_or (point_records columns j points) k [] ≡ point_record columns (j + k) (slice_index_or points k None)
 unfolding point_records
@@ -62,6 +67,7 @@ not_empty : (a b c : List ℕ) (x : ℕ) → ((a ++ (x ∷ [])) ++ b) ++ c ≡ [
 not_empty [] b c x e = cc
 not_empty (y ∷ a) b c x e = cc
 
+-- a number is spelled with at least its point
 spelled : (n : ℕ) → hundredths n ≡ [] → ⊥
 spelled n e = not_empty (decimal (n / 100)) (decimal (n / 10 % 10)) (decimal (n % 10)) 46 e
 

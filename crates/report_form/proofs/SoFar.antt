@@ -1,5 +1,5 @@
 -- A text that grows by a piece for each point, in their order.
-use Rattle.std.proofs.Common.{ℕ, ◌+◌, ◌<◌, ◌≡◌, ◌∙◌, List, [], ◌∷◌, ◌++◌, length, drop, drop-cons, append_assoc, append-nil, add-one, suc, ap, sym, refl, arith, flat_map}
+use Rattle.std.proofs.Common.{ℕ, ◌+◌, ◌<◌, ◌≡◌, ◌∙◌, List, [], ◌∷◌, ◌++◌, length, drop, drop-cons, append_assoc, append-nil, add-one, ap, sym, refl, arith, flat_map}
 use Rattle.std.specs.Prelude.{slice_index_or, Option, None}
 use Rattle.std.proofs.Math.Seq.{drop-length}
 use Rattle.csv.specs.Writing.{default_writer, row_text}
@@ -17,6 +17,7 @@ pub record IsSoFar (pieces : ℕ → List (Option Printed) → List ℕ) (points
   pub same : index ≡ place
   pub all : text ++ pieces place (drop place points) ≡ before ++ pieces 0 points
 
+-- one more piece is that of the next point
 pub one_more : (piece : ℕ → Option Printed → List ℕ) (pieces : ℕ → List (Option Printed) → List ℕ) (points : List (Option Printed)) (before : List ℕ) (k j : ℕ) (text new : List ℕ)
     → IsByPoint piece pieces → k < length points → new ≡ text ++ piece j (slice_index_or points k None)
     → IsSoFar pieces points before k j text → IsSoFar pieces points before (k + 1) (j + 1) new
@@ -28,6 +29,7 @@ one_more piece pieces points before k j text new by h grown so_far =
     ap (λ (xs : List (Option Printed)). pieces k xs) d ∙ by.more k e (drop (k + 1) points) in
     record { same = omega arith; all = rw (grown, append_assoc, same, ← opened) so_far.all }
 
+-- past the last point the text has the pieces of all
 pub all_done : (piece : ℕ → Option Printed → List ℕ) (pieces : ℕ → List (Option Printed) → List ℕ) (points : List (Option Printed)) (before : List ℕ) (k j : ℕ) (text : List ℕ)
     → IsByPoint piece pieces → k ≡ length points → IsSoFar pieces points before k j text → text ≡ before ++ pieces 0 points
 all_done piece pieces points before k j text by e so_far =

@@ -1,5 +1,5 @@
 -- The ends of a report that limits are held against.
-use Rattle.std.specs.Prelude.{ℕ, ◌*◌, ◌^◌, ◌<◌, ◌≤◌, IfSome, option_map}
+use Rattle.std.specs.Prelude.{◌*◌, ◌^◌, ◌<◌, ◌≤◌, IfSome, option_map}
 use Rattle.report_form.specs.declared.report.Printed.{Printed}
 use Rattle.report_form.specs.declared.report.Report.{Report}
 use Rattle.report_form.specs.declared.judged.Ends.{Ends}

@@ -1,11 +1,10 @@
 -- The definitions, computed on small reports.
-use Rattle.std.specs.Prelude.{◌≡◌, List, ◌∷◌, [], refl, codes, Option, Some, None}
+use Rattle.std.specs.Prelude.{◌≡◌, ◌∷◌, [], refl, codes, Some, None}
 use Rattle.std.specs.Fmt.{digits}
-use Rattle.csv.specs.Writing.{fields_text, is_blank, escaped}
+use Rattle.csv.specs.Writing.{fields_text, is_blank}
 use Rattle.report_form.specs.Grid.{grid_bytes, point_records}
 use Rattle.report_form.specs.Judged.{ends_of}
 use Rattle.report_form.specs.Spelled.{overall_text, point_lines, report_text}
-use Rattle.report_form.specs.declared.report.Printed.{Printed}
 use Rattle.report_form.specs.declared.report.Report.{Report}
 
 -- one point under a lamp: 5000 / 9 lux

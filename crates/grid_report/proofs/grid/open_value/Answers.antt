@@ -1,3 +1,4 @@
+-- What of `open_value` wants a proof by hand.
 use Rattle.std.proofs.Common.{◌+◌}
 use Rattle.grid_report.proofs.AtPoints.{open_order, ticks_order}
 use Rattle.grid_report.proofs.grid.open_value.Goals as goal

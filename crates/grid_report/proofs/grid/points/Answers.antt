@@ -1,3 +1,4 @@
+-- What of `points` wants a proof by hand.
 use Rattle.std.proofs.Common.{arith}
 use Rattle.grid_report.proofs.AtPoints.{same_count}
 use Rattle.grid_report.proofs.Means.{no_point}

@@ -1,3 +1,4 @@
+-- What holds before each turn of the loops of `points`.
 use Rattle.scene_system.specs.Assembled.{numbers}
 use Rattle.grid_report.proofs.Totals.{AreValuesSoFar}
 use Rattle.grid_report.proofs.grid.points.Given as goal

@@ -1,3 +1,4 @@
+-- What of `value_at` wants a proof by hand.
 use Rattle.scene_system.specs.Assembled.{numbers}
 use Rattle.grid_report.proofs.AtPoints.{open_value_is}
 use Rattle.grid_report.proofs.grid.value_at.Goals as goal

@@ -1,3 +1,4 @@
+-- What of `least_ends` wants a proof by hand.
 use Rattle.std.proofs.Common.{arith}
 use Rattle.grid_report.specs.Sums.{lower_end, upper_end}
 use Rattle.grid_report.proofs.Leasts.{least_step, all_least, least_within, leasts_order, lower_within, upper_within}

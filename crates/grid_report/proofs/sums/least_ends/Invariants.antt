@@ -1,3 +1,4 @@
+-- What holds before each turn of the loops of `least_ends`.
 use Rattle.grid_report.proofs.Leasts.{IsLeastSoFar}
 use Rattle.grid_report.proofs.sums.least_ends.Given as goal
 

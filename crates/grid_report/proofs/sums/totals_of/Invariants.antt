@@ -1,3 +1,4 @@
+-- What holds before each turn of the loops of `totals_of`.
 use Rattle.std.proofs.Common.{take}
 use Rattle.grid_report.proofs.Totals.{AreTotals}
 use Rattle.grid_report.proofs.sums.totals_of.Given as goal
