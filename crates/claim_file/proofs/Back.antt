@@ -1,6 +1,5 @@
 -- What is written of bounds is read again as the same bounds.
-use Rattle.std.proofs.Common.{ℕ, zero, suc, ◌+◌, ◌^◌, ◌<◌, ◌≤◌, ◌≡◌, ◌∙◌, refl, ap, arith, List, [], ◌∷◌, length, map, All, Some, zero-add}
-use Rattle.std.specs.Fmt.{decimal}
+use Rattle.std.proofs.Common.{ℕ, zero, suc, ◌+◌, ◌≤◌, ◌≡◌, ◌∙◌, refl, ap, arith, List, [], ◌∷◌, length, map, All, zero-add}
 use Rattle.std.proofs.lemmas.List.Elements.{All-head, All-tail}
 use Rattle.csv.specs.Machine.{next_record}
 use Rattle.csv.specs.Reading.{default_config, records, records_from, strip_bom}
@@ -8,15 +7,11 @@ use Rattle.csv.specs.Writing.{escaped, fields_text, is_blank, read_back}
 use Rattle.csv.specs.declared.parser.State.TheVariants as st
 use Rattle.csv.proofs.RoundTrip.{read-write}
 use Rattle.fx_base.specs.Bound.{IsEnd}
-use Rattle.fx_base.specs.Units.{natural}
 use Rattle.fx_base.specs.declared.Tick.{Tick}
-use Rattle.fx_base.proofs.Rounding.{natural_most}
 use Rattle.claim_file.specs.declared.entry.Entry.{Entry}
-use Rattle.claim_file.specs.Numbers.{number}
 use Rattle.claim_file.specs.Claims.{claim_of}
-use Rattle.claim_file.specs.Fits.{AreRows, IsClaimText, IsRow, WrittenIsRead}
-use Rattle.claim_file.specs.Written.{claim_bytes, claim_rows, digits_of, header, rows_text}
-use Rattle.claim_file.proofs.Decimals.{number-decimal}
+use Rattle.claim_file.specs.Fits.{AreRows, IsClaimText, WrittenIsRead}
+use Rattle.claim_file.specs.Written.{claim_bytes, claim_rows, header, rows_text}
 use Rattle.claim_file.proofs.Fitting.{fits_after}
 use Rattle.claim_file.proofs.Records.{same_records}
 
@@ -81,23 +76,6 @@ size_back n (l ∷ lower) (u ∷ upper) e =
     let more : length (claim_rows (n + 1) lower upper) ≡ length lower = size_back (n + 1) lower upper (omega arith) in
     omega arith
 
-digits_say : (t : Tick) → IsEnd t → number (digits_of t) ≡ Some (natural t.0)
-digits_say t h = let small : natural t.0 ≤ 2 ^ 90 = natural_most t.0 (2 ^ 90) h.high in number-decimal (natural t.0) (omega arith)
-
-row_says : (n : ℕ) (l u : Tick) → n < 10 ^ 64 → IsEnd l → IsEnd u
-    → IsRow n (decimal n ∷ digits_of l ∷ digits_of u ∷ []) (record { lower = l; upper = u })
-row_says n l u small low high = record {
-  place = decimal n;
-  low = digits_of l;
-  high = digits_of u;
-  three = refl;
-  is_place = number-decimal n small;
-  is_low = digits_say l low;
-  is_high = digits_say u high;
-  low_fits = low;
-  high_fits = high;
-}
-
 rows_say : (n : ℕ) (lower upper : List Tick) → length upper ≡ length lower → n + length lower ≤ 2048 → All IsEnd lower → All IsEnd upper
     → AreRows 3 n (claim_rows n lower upper) (entries lower upper)
 unfolding AreRows claim_rows
@@ -105,7 +83,7 @@ rows_say n [] upper e few low high = tt
 rows_say n (l ∷ lower) [] e few low high = absurd (omega arith)
 rows_say n (l ∷ lower) (u ∷ upper) e few low high = (
   refl,
-  row_says n l u (omega arith) (All-head IsEnd l lower low) (All-head IsEnd u upper high),
+  record { is = refl; low_fits = All-head IsEnd l lower low; high_fits = All-head IsEnd u upper high },
   rows_say (n + 1) lower upper (omega arith) (omega arith) (All-tail IsEnd l lower low) (All-tail IsEnd u upper high),
 )
 
@@ -119,5 +97,5 @@ unfolding claim_of
 written_is_read lower upper e few low high =
     let text : records default_config (claim_bytes lower upper) ≡ header ∷ claim_rows 0 lower upper =
     every_record (header ∷ claim_rows 0 lower upper) (refl, are_kept 0 lower upper) in
-    rw (no_mark lower upper, text) (fits_after (length lower) (header ∷ claim_rows 0 lower upper) (entries lower upper) (text_fits lower upper e few low high)
+    rw (no_mark lower upper, text) (fits_after (length lower) (header ∷ claim_rows 0 lower upper) (entries lower upper) few (text_fits lower upper e few low high)
     ∙ rw (lower_back lower upper e, upper_back lower upper e) refl)

@@ -1,23 +1,15 @@
 -- Which records a claim has, apart from how they are read; and that what is written is read again.
-use Rattle.std.specs.Prelude.{ℕ, ◌+◌, ◌≤◌, ◌≡◌, ◌↔◌, List, [], ◌∷◌, length, Some, Ok, All}
+use Rattle.std.specs.Prelude.{ℕ, ◌+◌, ◌≤◌, ◌≡◌, ◌↔◌, List, [], ◌∷◌, length, Ok, All}
 use Rattle.csv.specs.Reading.{default_config, records, strip_bom}
 use Rattle.fx_base.specs.declared.Tick.{Tick}
 use Rattle.fx_base.specs.Bound.{IsEnd}
-use Rattle.claim_file.specs.Numbers.{number}
-use Rattle.fx_base.specs.Units.{natural}
 use Rattle.claim_file.specs.declared.entry.Entry.{Entry}
 use Rattle.claim_file.specs.Claims.{Claim, claim_of, claim_with}
-use Rattle.claim_file.specs.Written.{claim_bytes}
+use Rattle.claim_file.specs.Written.{claim_bytes, patch_row}
 
--- a record of three numbers: the patch's, and its two bounds of at most 2^90 ticks
+-- the record of patch n with these bounds of at most 2^90 ticks: three numbers in digits
 pub record IsRow (n : ℕ) (fields : List (List ℕ)) (e : Entry) : Type 0 where
-  pub place : List ℕ
-  pub low : List ℕ
-  pub high : List ℕ
-  pub three : fields ≡ place ∷ low ∷ high ∷ []
-  pub is_place : number place ≡ Some n
-  pub is_low : number low ≡ Some (natural e.lower.0)
-  pub is_high : number high ≡ Some (natural e.upper.0)
+  pub is : fields ≡ patch_row n e.lower e.upper
   pub low_fits : IsEnd e.lower
   pub high_fits : IsEnd e.upper
 
@@ -35,7 +27,7 @@ IsClaimText patches (head ∷ rows) entries = (length rows ≡ patches) × AreRo
 
 -- a text is read as a claim exactly where its records fit one
 abbrev pub ClaimIsRead : Type 0
-ClaimIsRead = (bytes : List ℕ) (patches : ℕ) (claim : Claim)
+ClaimIsRead = (bytes : List ℕ) (patches : ℕ) (claim : Claim) → patches ≤ 2048
     → (claim_of bytes patches ≡ Ok claim)
     ↔ ((entries : List Entry) × IsClaimText patches (records default_config (strip_bom bytes)) entries × (claim ≡ claim_with entries))
 

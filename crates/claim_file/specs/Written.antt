@@ -12,11 +12,15 @@ header = codes "patch" ∷ codes "lower" ∷ codes "upper" ∷ []
 abbrev pub digits_of : Tick → List ℕ
 digits_of t = decimal (natural t.0)
 
+-- the record of patch n
+abbrev pub patch_row : ℕ → Tick → Tick → List (List ℕ)
+patch_row n lower upper = decimal n ∷ digits_of lower ∷ digits_of upper ∷ []
+
 -- the records of the patches from number n on
 unfoldable pub claim_rows : ℕ → List Tick → List Tick → List (List (List ℕ))
 claim_rows n [] uppers = []
 claim_rows n (lower ∷ lowers) [] = []
-claim_rows n (lower ∷ lowers) (upper ∷ uppers) = (decimal n ∷ digits_of lower ∷ digits_of upper ∷ []) ∷ claim_rows (n + 1) lowers uppers
+claim_rows n (lower ∷ lowers) (upper ∷ uppers) = patch_row n lower upper ∷ claim_rows (n + 1) lowers uppers
 
 -- records as CSV is written by default, one after the other
 unfoldable pub rows_text : List (List (List ℕ)) → List ℕ

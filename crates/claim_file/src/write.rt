@@ -1,18 +1,17 @@
 //! The text of a claim.
-ghost use Rattle.std.specs.Prelude.{◌≡◌, ◌++◌, ◌≤◌, ◌∷◌, [], All, IfOk, Ok, OnOk, length, map};
-ghost use Rattle.std.specs.Fmt.{decimal};
+ghost use Rattle.std.specs.Prelude.{◌≡◌, ◌++◌, ◌≤◌, All, IfOk, Ok, OnOk, length, map};
 ghost use Rattle.csv.specs.Writing.{default_writer, row_text};
 ghost use Rattle.fx_base.specs.Bound.{IsEnd};
 ghost use Rattle.claim_file.specs.Claims.{claim_of};
 ghost use Rattle.claim_file.specs.Writers.{IsPlain, written};
-ghost use Rattle.claim_file.specs.Written.{claim_bytes, digits_of};
+ghost use Rattle.claim_file.specs.Written.{claim_bytes, patch_row};
 
 use csv::{Writer, WriterBuilder};
 use fx_base::{Memory, Tick, end_ticks};
 use radiosity_solve::Bounds;
 use std::alloc::Global;
 
-/// Writes a record of these fields. A writer into a list fails only for want of memory, as far as anything is known of it.
+/// Writes a record of these fields. Whatever fails is told as want of memory: a list takes each byte for which there is memory.
 fn put_record(writer: &mut Writer<Vec<u8>>, fields: &[&[u8]]) -> Result<(), Memory>
     requires plain { IsPlain writer.old }
     ensures plain { OnOk result (IsPlain writer.new) }
@@ -37,7 +36,7 @@ fn put_patch(
     requires upper_end { IsEnd upper }
     ensures plain { OnOk result (IsPlain writer.new) }
     ensures text { OnOk result (written writer.new
-        ≡ written writer.old ++ row_text default_writer (decimal n ∷ digits_of lower ∷ digits_of upper ∷ [])) }
+        ≡ written writer.old ++ row_text default_writer (patch_row n lower upper)) }
 {
     let patch = format!(in alloc; "{n}")?;
     let low = format!(in alloc; "{}", end_ticks(lower))?;

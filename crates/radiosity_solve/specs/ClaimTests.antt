@@ -4,7 +4,7 @@
 --     half, quarter, lux = 2**35, 2**34, 2**36
 --     def from_below(h): return lux + floor(F(half * h[1], lux)), floor(F(quarter * h[0], lux))
 --     def from_above(h): return lux + ceil(F((half + 1) * h[1], lux)), ceil(F((quarter + 1) * h[0], lux))
-use Rattle.std.specs.Prelude.{ℕ, ◌≡◌, ◌<◌, ◌∷◌, [], List, pos, refl}
+use Rattle.std.specs.Prelude.{ℕ, ◌≡◌, ◌∷◌, [], List, pos, refl}
 use Rattle.std.proofs.Common.{lit<, lit≤}
 use Rattle.std.proofs.Math.Nat.{not-le_of_lt}
 use Rattle.fx_base.specs.declared.Tick.{Tick}
