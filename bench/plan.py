@@ -22,9 +22,11 @@ Point = namedtuple("Point", "column row lower upper")
 def read_grid(path):
     """The task points; the two ends of a covered one are None."""
     with open(path, newline="", encoding="utf-8-sig") as file:
-        header, *records = [record for record in csv.reader(file) if record]
+        header, *records = [record for record in csv.reader(file) if record] or [[]]
     if header != ["column", "row", "lower", "upper"]:
         raise SystemExit(f"{path} isn't a grid of lux: its header is {','.join(header)}")
+    if not records:
+        raise SystemExit(f"{path} has no task point")
     return [Point(int(column), int(row), lower or None, upper or None) for column, row, lower, upper in records]
 
 
