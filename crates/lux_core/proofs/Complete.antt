@@ -6,30 +6,45 @@ use Rattle.lux_io.specs.Files.{bytes_of, Rose, Stood}
 use Rattle.lm63_read.specs.Tables.{IsTableOf}
 use Rattle.lm63_read.specs.Files.{IesFile}
 use Rattle.eulumdat_read.specs.Ldt.{table_of_file}
+use Rattle.claim_file.specs.Claims.{claim_of}
+use Rattle.limit_verdict.specs.declared.verdict.Verdict.{Verdict}
+use Rattle.limit_verdict.specs.declared.verdict.Verdict.TheVariants.{Met, Missed, Undecided}
+use Rattle.limit_verdict.specs.Verdicts.{verdicts_of, overall}
 use Rattle.photo_table.specs.Table.{Table}
-use Rattle.room_layout.specs.Layout.{built_room_of}
+use Rattle.report_form.specs.Judged.{ends_of}
+use Rattle.room_layout.specs.Layout.{room_of}
 use Rattle.room_layout.specs.declared.room.FileUse.{FileUse}
 use Rattle.room_layout.specs.declared.room.Room.{Room}
+use Rattle.room_make.specs.Room.{room_text}
 use Rattle.fx_base.specs.Fraction.{Fraction, ◌≤ᶠ◌, ◌<ᶠ◌}
 use Rattle.fx_base.proofs.Order.{lt_le_trans_f}
 use Rattle.scene_system.specs.Causes.{IsCause, IsWithinLimits}
 use Rattle.scene_system.specs.RowSums.{IsMild}
+use Rattle.scene_system.specs.Scene.{patch_count}
 use Rattle.scene_system.specs.declared.fault.SceneFault.{SceneFault}
 use Rattle.scene_system.specs.declared.fault.SceneFault.TheVariants as scene_fault
-use Rattle.lux_core.specs.Answers.{IsBytesAnswer, IsFileAnswer, IsAnswer, CanAnswer, IsAble}
-use Rattle.lux_core.specs.Commands.{question_of, file_name, format_of}
+use Rattle.lux_core.specs.Answers.{IsBytesAnswer, IsFileAnswer, IsAnswer, IsAnswerTo, CanAnswer, CanTellFile, CanTellOf, IsAble, IsFullStatus}
+use Rattle.lux_core.specs.Claims.{IsCheckAnswer, IsClaimAnswer, IsOfClaim, IsSaidOfClaim, CanCheck}
+use Rattle.lux_core.specs.Commands.{question_of, file_name, claim_name, format_of}
 use Rattle.lux_core.specs.LampFiles.{LampFile, WasRead, WereRead, HasUnreadFile, IsUnreadFile, IsRefusedFile, file_at, nothing_read, tables_of}
-use Rattle.lux_core.specs.Photometry.{IsFaultOfFile, IsTableOfFile, CanSum}
-use Rattle.lux_core.specs.ReportAnswers.{HasNoScene, HasHeavyRow, IsReportAnswer, CanReport}
+use Rattle.lux_core.specs.LightAnswers.{HasNoScene, HasHeavyRow, IsAsked, IsLightAnswer, IsNotServed, IsOfTables, IsSaidByScene, CanLight}
+use Rattle.lux_core.specs.Photometry.{IsFaultOfFile, IsPhotometryAnswer, IsTableOfFile, CanSum}
 use Rattle.lux_core.specs.RoomAnswers.{IsSaidOf, IsRoomAnswer, IsAbleOf}
 use Rattle.lux_core.specs.Runs.{Run, IsContent, longest_file}
-use Rattle.lux_core.specs.Untaken.{IsAbsent, IsTooLong, IsUntaken}
+use Rattle.lux_core.specs.Spellings.{verdict_status}
+use Rattle.lux_core.specs.Trials.{IsTrialAnswer, CanTry}
+use Rattle.lux_core.specs.Untaken.{IsAbsent, IsTooLong, IsReadFault, IsUntaken}
 use Rattle.lux_core.specs.declared.photometry.TableFault.{TableFault}
 use Rattle.lux_core.specs.declared.photometry.TableFault.TheVariants as table_fault
+use Rattle.lux_core.specs.declared.words.FileQuestion.{FileQuestion}
+use Rattle.lux_core.specs.declared.words.FileQuestion.TheVariants as file
+use Rattle.lux_core.specs.declared.words.LightQuestion.{LightQuestion}
+use Rattle.lux_core.specs.declared.words.LightQuestion.TheVariants.{Report, Claim}
 use Rattle.lux_core.specs.declared.words.RoomQuestion.{RoomQuestion}
 use Rattle.lux_core.specs.declared.words.RoomQuestion.TheVariants as asks
 use Rattle.lux_core.specs.declared.words.Question.{Question}
 use Rattle.lux_core.specs.declared.words.Question.TheVariants as question
+use Rattle.lux_core.specs.declared.words.Spelling.TheVariants.{Lines, Records, Summary}
 use Rattle.lux_core.specs.declared.words.Format.{Format}
 use Rattle.lux_core.specs.declared.words.Format.TheVariants.{Lm63, Eulumdat}
 use Rattle.lux_core.specs.declared.status.Status.{Status}
@@ -61,22 +76,21 @@ pub record IsThere (r : Run) (name bytes : List ℕ) : Type 0 where
   pub found : bytes_of name told ≡ Some bytes
   pub few : length bytes ≤ longest_file
 
-not_absent : (r : Run) (name bytes text : List ℕ) → IsThere r name bytes → IsAbsent r name text → ⊥
-not_absent r name bytes text c a =
+not_absent : (r : Run) (name bytes : List ℕ) (given : Status) (text : List ℕ) → IsThere r name bytes → IsAbsent r name given text → ⊥
+not_absent r name bytes given text c a =
     let none : bytes_of name c.told ≡ None = told_of r.files c.told (λ fs. bytes_of name fs ≡ None) c.files_are a.told in
     let found = c.found in absurd (cc)
 
-not_too_long : (r : Run) (name bytes text : List ℕ) → IsThere r name bytes → IsTooLong r name text → ⊥
-not_too_long r name bytes text c a =
+not_too_long : (r : Run) (name bytes : List ℕ) (given : Status) (text : List ℕ) → IsThere r name bytes → IsTooLong r name given text → ⊥
+not_too_long r name bytes given text c a =
     let some = told_of r.files c.told (λ fs. IsSomeAnd (bytes_of name fs) (λ bytes. longest_file < length bytes)) c.files_are a.told in
     let long = some_and (bytes_of name c.told) bytes (λ bytes. longest_file < length bytes) c.found some in
     let few = c.few in absurd (omega arith)
 
-taken_there : (r : Run) (name bytes text : List ℕ) (given : Status) → IsThere r name bytes → Stood r.faults.before r.faults.now → IsUntaken r name given text → ⊥
-taken_there r name bytes text status.Refused c s (inl a) = not_absent r name bytes text c a
-taken_there r name bytes text status.Refused c s (inr l) = not_too_long r name bytes text c l
-taken_there r name bytes text status.ReadFault c s f = let rose = f.rose in absurd (omega (arith, rose, s.0, s.1))
-taken_there r name bytes text _ c s u = absurd u
+taken_there : (r : Run) (name bytes : List ℕ) (given : Status) (text : List ℕ) → IsThere r name bytes → Stood r.faults.before r.faults.now → IsUntaken r name given text → ⊥
+taken_there r name bytes given text c s (inl a) = not_absent r name bytes given text c a
+taken_there r name bytes given text c s (inr (inl l)) = not_too_long r name bytes given text c l
+taken_there r name bytes given text c s (inr (inr f)) = let rose = f.rose in absurd (omega (arith, rose, s.0, s.1))
 
 same_content : (r : Run) (name bytes others : List ℕ) → IsThere r name bytes → IsContent r.files name others → others ≡ bytes
 same_content r name bytes others c h =
@@ -109,9 +123,9 @@ one_table (Eulumdat set) bytes t u (f, is, of) (g, was, from) =
 there : (r : Run) (told : List (List ℕ × List ℕ)) (name bytes : List ℕ) → r.files ≡ Some told → IsContent (Some told) name bytes → IsThere r name bytes
 there r told name bytes e c = record { told = told; files_are = e; found = c.told; few = c.few }
 
-read_not_refused : (r : Run) (told : List (List ℕ × List ℕ)) (file : FileUse) (read : LampFile) (text : List ℕ) → r.files ≡ Some told
-    → WasRead (Some told) file read → IsRefusedFile r file text → ⊥
-read_not_refused r told file read text e was refused =
+read_not_refused : (r : Run) (told : List (List ℕ × List ℕ)) (file : FileUse) (read : LampFile) (given : Status) (text : List ℕ) → r.files ≡ Some told
+    → WasRead (Some told) file read → IsRefusedFile r file given text → ⊥
+read_not_refused r told file read given text e was refused =
     let same = same_content r file.name read.bytes refused.bytes (there r told file.name read.bytes e was.content) refused.content in
     no_fault (format_of file.name file.set) read.bytes refused.refusal.fault
     (has_sum (format_of file.name file.set) read.bytes read.table was.table)
@@ -119,13 +133,11 @@ read_not_refused r told file read text e was refused =
 
 read_not_unread : (r : Run) (told : List (List ℕ × List ℕ)) (file : FileUse) (read : LampFile) (given : Status) (text : List ℕ) → r.files ≡ Some told
     → Stood r.faults.before r.faults.now → WasRead (Some told) file read → IsUnreadFile r file given text → ⊥
-read_not_unread r told file read status.Refused text e s was (inl u) = taken_there r file.name read.bytes text status.Refused (there r told file.name read.bytes e was.content) s u
-read_not_unread r told file read status.Refused text e s was (inr f) = read_not_refused r told file read text e was f
-read_not_unread r told file read status.ReadFault text e s was u = taken_there r file.name read.bytes text status.ReadFault (there r told file.name read.bytes e was.content) s u
-read_not_unread r told file read _ text e s was u = absurd u
+read_not_unread r told file read given text e s was (inl u) = taken_there r file.name read.bytes given text (there r told file.name read.bytes e was.content) s u
+read_not_unread r told file read given text e s was (inr f) = read_not_refused r told file read given text e was f
 
 has_no_unread : (r : Run) (told : List (List ℕ × List ℕ)) (room : Room) (given : Status) (text : List ℕ) → r.files ≡ Some told
-    → Stood r.faults.before r.faults.now → CanReport told room → HasUnreadFile r room.files given text → ⊥
+    → Stood r.faults.before r.faults.now → CanLight (Some told) room → HasUnreadFile r room.files given text → ⊥
 has_no_unread r told room given text e s can h =
     let k = length h.before in
     read_not_unread r told (file_at room.files k) (slice_index_or can.reads k nothing_read) given text e s
@@ -165,8 +177,8 @@ same_tables r told files reads others e size were can =
 -- ---- rooms
 
 -- a room within its limits has a scene
-has_scene : (tables : List Table) (room : Room) (text : List ℕ) → IsWithinLimits tables room → HasNoScene tables room text → ⊥
-has_scene tables room text w h = by_fault h.fault h.no_want h.cause
+has_scene : (tables : List Table) (room : Room) (given : Status) (text : List ℕ) → IsWithinLimits tables room → HasNoScene tables room given text → ⊥
+has_scene tables room given text w h = by_fault h.fault h.no_want h.cause
   where
     by_fault : (f : SceneFault) → f ≢ scene_fault.Memory → IsCause tables room f → ⊥
     by_fault scene_fault.TotalIntensity n bright = let dim = w.dim in absurd (omega arith)
@@ -178,104 +190,128 @@ less_than_itself : (a b : Fraction) → a <ᶠ b → b ≤ᶠ a → ⊥
 less_than_itself a b less most = let l = (lt_le_trans_f less most).cross in absurd (omega arith)
 
 -- and a mild room is not refused for a row
-has_no_heavy_row : (tables : List Table) (room : Room) (text : List ℕ) → IsMild room → HasHeavyRow tables room text → ⊥
-has_no_heavy_row tables room text m h = less_than_itself _ _ (h.heavy.heavy m.depth m.deep) (m.row h.row h.heavy.in_room)
+has_no_heavy_row : (tables : List Table) (room : Room) (given : Status) (text : List ℕ) → IsMild room → HasHeavyRow tables room given text → ⊥
+has_no_heavy_row tables room given text m h = less_than_itself _ _ (h.heavy.heavy m.depth m.deep) (m.row h.row h.heavy.in_room)
 
-reported : (r : Run) (told : List (List ℕ × List ℕ)) (bytes : List ℕ) (room : Room) (given : Status) (text : List ℕ) → r.files ≡ Some told
-    → Stood r.faults.before r.faults.now → CanReport told room → IsReportAnswer r bytes room given text → given ≡ status.Done
-reported r told bytes room status.Done text e s can a = refl
-reported r told bytes room status.Refused text e s can (inl u) = absurd (has_no_unread r told room status.Refused text e s can u)
-reported r told bytes room status.Refused text e s can (inr o) =
-    let same = same_tables r told room.files o.reads can.reads e (o.all ∙ sym can.all) o.read can.read in
-    elim o.said [
-      | inl none ↦ absurd (has_scene (tables_of o.reads) room text (subst (λ (ts : List Table). IsWithinLimits ts room) (sym same) can.within) none)
-      | inr heavy ↦ absurd (has_no_heavy_row (tables_of o.reads) room text can.mild heavy)
-    ]
-reported r told bytes room status.ReadFault text e s can u = absurd (has_no_unread r told room status.ReadFault text e s can u)
-reported r told bytes room _ text e s can a = absurd a
+is_served : (tables : List Table) (room : Room) (given : Status) (text : List ℕ) → IsWithinLimits tables room → IsMild room → IsNotServed tables room given text → ⊥
+is_served tables room given text w m (inl none) = has_scene tables room given text w none
+is_served tables room given text w m (inr heavy) = has_no_heavy_row tables room given text m heavy
 
-said_done : (asked : RoomQuestion) (r : Run) (told : List (List ℕ × List ℕ)) (bytes : List ℕ) (room : Room) (given : Status) (text : List ℕ) → r.files ≡ Some told
-    → Stood r.faults.before r.faults.now → IsAbleOf asked told room → IsSaidOf asked r bytes room given text → given ≡ status.Done
-said_done asks.Report r told bytes room given text e s can a = reported r told bytes room given text e s can a
-said_done (asks.Sight p q) r told bytes room status.Done text e s can a = refl
-said_done (asks.Sight p q) r told bytes room status.Refused text e s can a = absurd a.2
-said_done (asks.Sight p q) r told bytes room status.ReadFault text e s can a = absurd a.2
-said_done (asks.Sight p q) r told bytes room _ text e s can a = absurd a.2
+-- the room is served by the tables that were read
+served_by : (r : Run) (told : List (List ℕ × List ℕ)) (room : Room) (reads : List LampFile) (given : Status) (text : List ℕ) → r.files ≡ Some told → CanLight (Some told) room
+    → length reads ≡ length room.files → WereRead r.files room.files reads → IsNotServed (tables_of reads) room given text → ⊥
+served_by r told room reads given text e can all read none =
+    let same = same_tables r told room.files reads can.reads e (all ∙ sym can.all) read can.read in
+    is_served (tables_of reads) room given text (subst (λ (ts : List Table). IsWithinLimits ts room) (sym same) can.within) can.mild none
+
+-- ---- the status of what is asked of a room's light
+
+one_of_three : (v : Verdict) → (verdict_status v ≡ status.Done) ⊎ (verdict_status v ≡ status.Missed) ⊎ (verdict_status v ≡ status.Undecided)
+one_of_three Met = inl refl
+one_of_three Missed = inr (inl refl)
+one_of_three Undecided = inr (inr refl)
+
+abbrev full : LightQuestion → Status → Type 0
+full asked given = IsFullStatus (question.File (file.Room (asks.Light asked))) given
+
+asked_full : (asked : LightQuestion) (tables : List Table) (room : Room) (given : Status) (text : List ℕ) → IsAsked asked tables room given text → full asked given
+asked_full (Report Lines) tables room given text (served, r) =
+    let e = ends_of r.report in
+    rw r.status_is (one_of_three (overall (verdicts_of room.limits e.average_lo e.average_hi e.uniformity)))
+asked_full (Report Records) tables room given text (served, r) = r.status_is
+asked_full (Report (Summary n)) tables room given text (served, r) = r.status_is
+asked_full Claim tables room given text (served, c) = c.status_is
+
+light_full : (asked : LightQuestion) (r : Run) (told : List (List ℕ × List ℕ)) (before : Option (List ℕ)) (room : Room) (given : Status) (text : List ℕ) → r.files ≡ Some told
+    → Stood r.faults.before r.faults.now → CanLight (Some told) room → IsLightAnswer asked r before room given text → full asked given
+light_full asked r told before room given text e s can (inl u) = absurd (has_no_unread r told room given text e s can u)
+light_full asked r told before room given text e s can (inr o) = elim o.said [
+  | inl a ↦ asked_full asked (tables_of o.reads) room given text a
+  | inr none ↦ absurd (served_by r told room o.reads given text e can o.lamp_files.all o.lamp_files.read none)
+]
+
+-- ---- a claim that is accepted
+
+claim_full : (r : Run) (told : List (List ℕ × List ℕ)) (room : Room) (name : List ℕ) (tables : List Table) (given : Status) (text : List ℕ) → r.files ≡ Some told
+    → Stood r.faults.before r.faults.now → CanCheck told room name → IsClaimAnswer r tables room name given text → (given ≡ status.Done) ⊎ (given ≡ status.NotShown)
+claim_full r told room name tables given text e s can (inl u) =
+    absurd (taken_there r name can.bytes given text (record { told = told; files_are = e; found = can.found; few = can.few }) s u)
+claim_full r told room name tables given text e s can (inr o) = by_alternative o.said
+  where
+    by_alternative : IsSaidOfClaim tables room o.bytes given text → (given ≡ status.Done) ⊎ (given ≡ status.NotShown)
+    by_alternative (inl shown) = inl shown.status_is
+    by_alternative (inr (inl unshown)) = inr unshown.status_is
+    by_alternative (inr (inr refused)) =
+        let same = same_content r name can.bytes o.bytes (record { told = told; files_are = e; found = can.found; few = can.few }) o.content in
+        absurd (ok_or_fault (claim_of can.bytes (patch_count room)) can.claim refused.fault can.read
+        (subst (λ (b : List ℕ). claim_of b (patch_count room) ≡ Err refused.fault) same refused.refused))
+
+check_full : (r : Run) (told : List (List ℕ × List ℕ)) (before : Option (List ℕ)) (room : Room) (name : List ℕ) (given : Status) (text : List ℕ) → r.files ≡ Some told
+    → Stood r.faults.before r.faults.now → CanCheck told room name → IsCheckAnswer r before room name given text → (given ≡ status.Done) ⊎ (given ≡ status.NotShown)
+check_full r told before room name given text e s can (inl u) = absurd (has_no_unread r told room given text e s can.light u)
+check_full r told before room name given text e s can (inr (inl o)) = absurd (served_by r told room o.reads given text e can.light o.lamp_files.all o.lamp_files.read o.said)
+check_full r told before room name given text e s can (inr (inr o)) = claim_full r told room name (tables_of o.reads) given text e s can o.said
 
 -- ---- whole answers
 
-room_done : (asked : RoomQuestion) (r : Run) (told : List (List ℕ × List ℕ)) (bytes : List ℕ) (room : Room) (given : Status) (text : List ℕ) → r.files ≡ Some told
-    → Stood r.faults.before r.faults.now → built_room_of bytes ≡ Ok room → IsAbleOf asked told room → IsRoomAnswer asked r bytes given text → given ≡ status.Done
-room_done asked r told bytes room given text e s accepted able a = by_status given a
-  where
-    of_room : (g : Status) → (o : Room) → built_room_of bytes ≡ Ok o → IsSaidOf asked r bytes o g text → g ≡ status.Done
-    of_room g o is said =
-        let same : o ≡ room = ok_same (built_room_of bytes) o room is accepted in
-        said_done asked r told bytes room g text e s able (subst (λ (x : Room). IsSaidOf asked r bytes x g text) same said)
+abbrev full_of_room : RoomQuestion → Status → Type 0
+full_of_room asked given = IsFullStatus (question.File (file.Room asked)) given
 
-    by_status : (g : Status) → IsRoomAnswer asked r bytes g text → g ≡ status.Done
-    by_status status.Done a = refl
-    by_status status.Refused (inl f) = absurd (ok_or_fault (built_room_of bytes) room f.fault accepted f.refused)
-    by_status status.Refused (inr o) = of_room status.Refused o.room o.accepted o.said
-    by_status status.ReadFault o = of_room status.ReadFault o.room o.accepted o.said
-    by_status _ a = absurd a
+said_full : (asked : RoomQuestion) (r : Run) (told : List (List ℕ × List ℕ)) (bytes claim : List ℕ) (room : Room) (given : Status) (text : List ℕ) → r.files ≡ Some told
+    → Stood r.faults.before r.faults.now → IsAbleOf asked told claim room → IsSaidOf asked r bytes claim room given text → full_of_room asked given
+said_full (asks.Light asked) r told bytes claim room given text e s can a = light_full asked r told (Some bytes) room given text e s can a
+said_full asks.Check r told bytes claim room given text e s can a = check_full r told (Some bytes) room claim given text e s can a
+said_full (asks.Sight p q) r told bytes claim room given text e s can (ended, inl a) = a.status_is
+said_full (asks.Sight p q) r told bytes claim room given text e s can (ended, inr a) = a.status_is
 
-bytes_done : (asked : Question) (r : Run) (told : List (List ℕ × List ℕ)) (name bytes : List ℕ) (given : Status) (text : List ℕ) → r.files ≡ Some told
-    → Stood r.faults.before r.faults.now → IsAble asked told bytes → IsBytesAnswer asked r name bytes given text → given ≡ status.Done
-bytes_done (question.Room asked) r told name bytes given text e s can a = room_done asked r told bytes can.room given text e s can.accepted can.able a
-bytes_done (question.Photometry format) r told name bytes status.Done text e s can a = refl
-bytes_done (question.Photometry format) r told name bytes status.Refused text e s can a = absurd (no_fault format bytes a.2.fault can a.2.refused)
-bytes_done (question.Photometry format) r told name bytes status.ReadFault text e s can a = absurd a.2
-bytes_done (question.Photometry format) r told name bytes _ text e s can a = absurd a.2
+room_full : (asked : RoomQuestion) (r : Run) (told : List (List ℕ × List ℕ)) (bytes claim : List ℕ) (room : Room) (given : Status) (text : List ℕ) → r.files ≡ Some told
+    → Stood r.faults.before r.faults.now → room_of bytes ≡ Ok room → IsAbleOf asked told claim room → IsRoomAnswer asked r bytes claim given text → full_of_room asked given
+room_full asked r told bytes claim room given text e s accepted able (inl f) = absurd (ok_or_fault (room_of bytes) room f.fault accepted f.refused)
+room_full asked r told bytes claim room given text e s accepted able (inr o) =
+    let same : o.room ≡ room = ok_same (room_of bytes) o.room room o.accepted accepted in
+    said_full asked r told bytes claim room given text e s able (subst (λ (x : Room). IsSaidOf asked r bytes claim x given text) same o.said)
 
-file_done : (words : List (List ℕ)) (r : Run) (given : Status) (text : List ℕ) (c : CanAnswer words r.files) → Stood r.faults.before r.faults.now
-    → IsFileAnswer c.asked r (file_name words) given text → given ≡ status.Done
-file_done words r given text c s a = by_status given a
-  where
-    is_there : IsThere r (file_name words) c.bytes
-    is_there = record { told = c.told; files_are = c.files_are; found = c.found; few = c.few }
+bytes_full : (asked : FileQuestion) (r : Run) (told : List (List ℕ × List ℕ)) (name claim bytes : List ℕ) (given : Status) (text : List ℕ) → r.files ≡ Some told
+    → Stood r.faults.before r.faults.now → IsAble asked told claim bytes → IsBytesAnswer asked r name claim bytes given text → IsFullStatus (question.File asked) given
+bytes_full (file.Room asked) r told name claim bytes given text e s can a = room_full asked r told bytes claim can.room given text e s can.accepted can.able a
+bytes_full (file.Photometry format) r told name claim bytes given text e s can (ended, inl a) = a.status_is
+bytes_full (file.Photometry format) r told name claim bytes given text e s can (ended, inr a) = absurd (no_fault format bytes a.fault can a.refused)
 
-    of_bytes : (g : Status) → (bytes : List ℕ) → IsContent r.files (file_name words) bytes → IsBytesAnswer c.asked r (file_name words) bytes g text → g ≡ status.Done
-    of_bytes g bytes content given =
-        let same = same_content r (file_name words) c.bytes bytes is_there content in
-        bytes_done c.asked r c.told (file_name words) c.bytes g text c.files_are s c.able
-        (subst (λ (b : List ℕ). IsBytesAnswer c.asked r (file_name words) b g text) same given)
+file_full : (asked : FileQuestion) (r : Run) (told : List (List ℕ × List ℕ)) (name claim : List ℕ) (given : Status) (text : List ℕ) → r.files ≡ Some told
+    → Stood r.faults.before r.faults.now → CanTellFile asked told name claim → IsFileAnswer asked r name claim given text → IsFullStatus (question.File asked) given
+file_full asked r told name claim given text e s can (inl u) =
+    absurd (taken_there r name can.bytes given text (record { told = told; files_are = e; found = can.found; few = can.few }) s u)
+file_full asked r told name claim given text e s can (inr o) =
+    let same = same_content r name can.bytes o.bytes (record { told = told; files_are = e; found = can.found; few = can.few }) o.read in
+    bytes_full asked r told name claim can.bytes given text e s can.able
+    (subst (λ (b : List ℕ). IsBytesAnswer asked r name claim b given text) same o.said)
 
-    by_status : (g : Status) → IsFileAnswer c.asked r (file_name words) g text → g ≡ status.Done
-    by_status status.Done a = refl
-    by_status status.Refused (inl u) = absurd (taken_there r (file_name words) c.bytes text status.Refused is_there s u)
-    by_status status.Refused (inr o) = of_bytes status.Refused o.bytes o.read o.given
-    by_status status.ReadFault (inl u) = absurd (taken_there r (file_name words) c.bytes text status.ReadFault is_there s u)
-    by_status status.ReadFault (inr o) = of_bytes status.ReadFault o.bytes o.read o.given
-    by_status _ a = absurd a
+trial_full : (n : ℕ) (r : Run) (told : List (List ℕ × List ℕ)) (given : Status) (text : List ℕ) → r.files ≡ Some told
+    → Stood r.faults.before r.faults.now → CanTry n told → IsTrialAnswer n r given text → given ≡ status.Done
+trial_full n r told given text e s can (inl f) = absurd (ok_or_fault (room_of (room_text n)) can.room f.fault can.accepted f.refused)
+trial_full n r told given text e s can (inr o) =
+    let same : o.room ≡ can.room = ok_same (room_of (room_text n)) o.room can.room o.accepted can.accepted in
+    light_full (Report (Summary n)) r told None can.room given text e s can.able
+    (subst (λ (x : Room). IsLightAnswer (Report (Summary n)) r None x given text) same o.said)
+
+answer_full : (asked : Question) (words : List (List ℕ)) (r : Run) (told : List (List ℕ × List ℕ)) (given : Status) (text : List ℕ) → r.files ≡ Some told
+    → Stood r.faults.before r.faults.now → CanTellOf asked told words → IsAnswerTo asked words r given text → IsFullStatus asked given
+answer_full (question.File asked) words r told given text e s can a = file_full asked r told (file_name words) (claim_name words) given text e s can a
+answer_full (question.Trial n) words r told given text e s can a = trial_full n r told given text e s can a
+
+none_some : {T : Type 0} {t : T} → (let o : Option T = None in o) ≡ Some t → ⊥
+none_some h = cc
 
 -- the question is the one that the words ask
 same_question : (words : List (List ℕ)) (a b : Question) → question_of words ≡ Some a → question_of words ≡ Some b → a ≡ b
 same_question words a b e f = cc
 
-asked_done : (words : List (List ℕ)) (r : Run) (asked : Question) (given : Status) (text : List ℕ) (c : CanAnswer words r.files) → Stood r.faults.before r.faults.now
-    → question_of words ≡ Some asked → IsFileAnswer asked r (file_name words) given text → given ≡ status.Done
-asked_done words r asked given text c s command a =
-    file_done words r given text c s (subst (λ (q : Question). IsFileAnswer q r (file_name words) given text) (same_question words asked c.asked command c.command) a)
-
-pub done_where_possible : (words : List (List ℕ)) (r : Run) (given : Status) (text : List ℕ) → CanAnswer words r.files → Stood r.faults.before r.faults.now
-    → IsAnswer words r given text → given ≡ status.Done
-done_where_possible words r status.Done text c s a = refl
-done_where_possible words r status.Usage text c s a = absurd (none_some (sym a.none ∙ c.command))
-  where
-    none_some : {T : Type 0} {t : T} → (let o : Option T = None in o) ≡ Some t → ⊥
-    none_some h = cc
-done_where_possible words r status.Refused text c s a = asked_done words r a.asked status.Refused text c s a.command a.answer
-done_where_possible words r status.ReadFault text c s a = asked_done words r a.asked status.ReadFault text c s a.command a.answer
-done_where_possible words r _ text c s a = absurd a
-
--- what a file gives is the answer to the words that name it
-pub answer_of_file : (words : List (List ℕ)) (r : Run) (asked : Question) (name : List ℕ) (given : Status) (text : List ℕ) → question_of words ≡ Some asked
-    → name ≡ file_name words → IsFileAnswer asked r name given text → IsAnswer words r given text
-answer_of_file words r asked name status.Done text q e a = record { asked = asked; command = q; answer = subst (λ (n : List ℕ). IsFileAnswer asked r n status.Done text) e a }
-answer_of_file words r asked name status.Refused text q e a = record { asked = asked; command = q; answer = subst (λ (n : List ℕ). IsFileAnswer asked r n status.Refused text) e a }
-answer_of_file words r asked name status.ReadFault text q e a = record { asked = asked; command = q; answer = subst (λ (n : List ℕ). IsFileAnswer asked r n status.ReadFault text) e a }
-answer_of_file words r asked name _ text q e a = absurd a
+pub full_where_possible : (words : List (List ℕ)) (r : Run) (given : Status) (text : List ℕ) (c : CanAnswer words r.files) → Stood r.faults.before r.faults.now
+    → IsAnswer words r given text → IsFullStatus c.asked given
+full_where_possible words r given text c s (inl u) = absurd (none_some (sym u.none ∙ c.command))
+full_where_possible words r given text c s (inr a) =
+    answer_full c.asked words r c.told given text c.files_are s c.able
+    (subst (λ (q : Question). IsAnswerTo q words r given text) (same_question words a.asked c.asked a.command c.command) a.answer)
 
 fault_or_not : (s : Status) → (s ≡ status.WriteFault) ⊎ (s ≢ status.WriteFault)
 fault_or_not status.WriteFault = inl refl
@@ -288,11 +324,11 @@ fault_or_not status.Missed = inr (λ e. cc)
 fault_or_not status.Undecided = inr (λ e. cc)
 fault_or_not status.NotShown = inr (λ e. cc)
 
-pub complete_written : (words : List (List ℕ)) (r : Run) (given result : Status) (text : List ℕ) (before now : ℕ)
+pub complete_written : (words : List (List ℕ)) (r : Run) (given result : Status) (text : List ℕ) (before now : ℕ) (can : CanAnswer words r.files)
     → (result ≢ status.WriteFault → result ≡ given) → (result ≡ status.WriteFault → Rose before now) → Stood before now
-    → IsAnswer words r given text → CanAnswer words r.files → Stood r.faults.before r.faults.now
-    → (result ≡ status.Done) ⊎ (result ≡ status.Memory)
-complete_written words r given result text before now same rose out answer can stood = elim (fault_or_not result) [
+    → IsAnswer words r given text → Stood r.faults.before r.faults.now
+    → IsFullStatus can.asked result ⊎ (result ≡ status.Memory)
+complete_written words r given result text before now can same rose out answer stood = elim (fault_or_not result) [
   | inl f ↦ absurd (let h = rose f in omega (arith, h, out.0, out.1))
-  | inr n ↦ inl (same n ∙ done_where_possible words r given text can stood answer)
+  | inr n ↦ inl (subst (λ (g : Status). IsFullStatus can.asked g) (sym (same n)) (full_where_possible words r given text can stood answer))
 ]

@@ -1,6 +1,6 @@
 -- The files of a room's lamps, one after the other.
 use Rattle.std.proofs.Common.{ℕ, ◌+◌, ◌<◌, ◌≤◌, ◌≡◌, ◌⊎◌, inl, inr, List, [], ◌∷◌, ◌++◌, length, slice_index_or, refl, sym, ap, subst, ◌∙◌, arith}
-use Rattle.std.specs.Prelude.{All, Option, Some, IfSome, string_bytes}
+use Rattle.std.specs.Prelude.{All, Option, Some, IfSome}
 use Rattle.lux_io.specs.Files.{bytes_of}
 use Rattle.std.proofs.lemmas.List.{length-append, map-append, get_or_append_left, get_or_default}
 use Rattle.std.proofs.lemmas.Bool.{cases_lt}
@@ -13,13 +13,14 @@ use Rattle.scene_system.specs.Causes.{IsCause, IsWithinLimits, total_ticks}
 use Rattle.scene_system.specs.Tables.{AreTablesOf}
 use Rattle.scene_system.specs.declared.fault.SceneFault.{SceneFault}
 use Rattle.scene_system.specs.declared.fault.SceneFault.TheVariants as fault
-use Rattle.lux_core.specs.LampFiles.{LampFile, WasRead, WereRead, HasUnreadFile, IsUnreadFile, file_at, no_file, last_bytes, nothing_read, tables_of}
+use Rattle.lux_core.specs.LampFiles.{LampFile, WasRead, WereRead, HasUnreadFile, IsUnreadFile, file_at, no_file, last_read, nothing_read, tables_of}
 use Rattle.lux_core.specs.Commands.{format_of}
 use Rattle.lux_core.specs.LampTables.{HasRead, Says}
 use Rattle.lux_core.specs.declared.reply.Halt.{Halt}
 use Rattle.lux_core.specs.declared.reply.Halt.TheVariants as halt
 use Rattle.lux_core.specs.Photometry.{IsReadAs, IsTableOfFile}
-use Rattle.lux_core.specs.ReportAnswers.{IsReportAnswer, IsOfTables, IsSceneAnswer}
+use Rattle.lux_core.specs.Claims.{IsClaimAnswer, IsOfClaim}
+use Rattle.lux_core.specs.LightAnswers.{IsOfTables, IsServed}
 use Rattle.room_layout.specs.declared.room.Room.{Room}
 use Rattle.lux_core.specs.Runs.{Run, HasStood, run, longest_file}
 use Rattle.lux_core.specs.declared.status.Status.{Status}
@@ -43,9 +44,9 @@ longer xs x = length-append xs (x ∷ [])
 table_of_one_more : (reads : List LampFile) (read : LampFile) → tables_of (reads ++ read ∷ []) ≡ tables_of reads ++ read.table ∷ []
 table_of_one_more reads read = map-append (λ (r : LampFile). r.table) reads (read ∷ [])
 
-last_of_one_more : (bytes : List ℕ) (reads : List LampFile) (read : LampFile) → last_bytes bytes (reads ++ read ∷ []) ≡ read.bytes
-last_of_one_more bytes [] read = refl
-last_of_one_more bytes (first ∷ more) read = last_of_one_more first.bytes more read
+last_of_one_more : (before : Option (List ℕ)) (reads : List LampFile) (read : LampFile) → last_read before (reads ++ read ∷ []) ≡ Some read.bytes
+last_of_one_more before [] read = refl
+last_of_one_more before (first ∷ more) read = last_of_one_more (Some first.bytes) more read
 
 -- below n + 1 is below n or n
 below_or_last : (k n : ℕ) → k < n + 1 → (k < n) ⊎ (k ≡ n)
@@ -62,7 +63,7 @@ none_read told files taken = record {
   size = refl;
   read = record { each = λ k h. absurd (omega arith) };
   are = record { count = refl; each = λ k h. absurd (omega arith) };
-  taken = λ bytes e. e;
+  taken = λ before e. e;
 }
 
 one_more_was : (told : Told) (files : List FileUse) (reads : List LampFile) (read : LampFile) → WereRead told files reads → WasRead told (file_at files (length reads)) read
@@ -91,7 +92,7 @@ one_more_read told files before now later count tables p h (read, was, rounded, 
   size = longer h.reads read ∙ ap (λ n. n + 1) h.size;
   read = one_more_was told files h.reads read h.read (rw (h.size) was);
   are = rw (table_of_one_more h.reads read) (one_more_table tables (tables_of h.reads) p read.table h.are rounded);
-  taken = λ bytes e. rw (last_of_one_more bytes h.reads read) taken;
+  taken = λ before e. rw (last_of_one_more before h.reads read) taken;
 }
 
 pub one_unread : (r : Run) (told : Told) (files : List FileUse) (before now count : ℕ) (tables : List Table) (given : Status) (text : List ℕ)
@@ -128,7 +129,7 @@ one_more_found told still files before now later count tables p file h e within 
 -- what is said of the file after those that were read
 by_halt : (r : Run) (told : Told) (files : List FileUse) (before now count : ℕ) (tables : List Table) (h : Halt) → HasRead told files before now count tables
     → told ≡ r.files → count < length files → Says h (IsUnreadFile r (file_at files count)) → Says h (HasUnreadFile r files)
-by_halt r told files before now count tables (halt.Said reply) read e within unread = one_unread r told files before now count tables reply.status (string_bytes reply.text) read e within unread
+by_halt r told files before now count tables (halt.Said reply) read e within unread = one_unread r told files before now count tables reply.status reply.text.items read e within unread
 by_halt r told files before now count tables halt.Memory read e within unread = tt
 
 pub one_halted : (told still : Told) (files : List FileUse) (before now count absences since later faults from after taken : ℕ) (tables : List Table) (h : Halt) (file : FileUse)
@@ -138,25 +139,27 @@ one_halted told still files before now count absences since later faults from af
     by_halt (run told absences later faults after taken) told files before now count tables h read refl within
     (subst (λ (x : FileUse). Says h (IsUnreadFile (run told absences later faults after taken) x)) (same_file files count file within is) (rw (e, a, f) at unread))
 
--- ---- the report
+-- ---- the room's files, all read
 
-pub of_tables : (r : Run) (told : Told) (before now : ℕ) (photos : List Table) (bytes : List ℕ) (room : Room) (given : Status) (text : List ℕ)
-    → HasRead told room.files before now (length room.files) photos → told ≡ r.files → now ≡ r.taken → HasStood r → before ≡ length bytes
-    → ((tables : List Table) → AreTablesOf photos tables → IsSceneAnswer tables room given text) → IsReportAnswer r bytes room given text
-of_tables r told before now photos bytes room given text h e t still b said = by_status given (said (tables_of h.reads) h.are)
-  where
-    whole : (g : Status) → IsSceneAnswer (tables_of h.reads) room g text → IsOfTables r bytes room g text
-    whole g s = record { reads = h.reads; all = h.size; read = rw (← e) h.read; taken = rw (← t) (h.taken bytes b); stood = still; said = s }
+pub of_tables : (Said : List Table → Room → Status → List ℕ → Type 0) (r : Run) (told : Told) (taken_before taken_now : ℕ) (photos : List Table) (before : Option (List ℕ)) (room : Room) (given : Status) (text : List ℕ)
+    → HasRead told room.files taken_before taken_now (length room.files) photos → told ≡ r.files → taken_now ≡ r.taken → HasStood r → IfSome before (λ bytes. taken_before ≡ length bytes)
+    → ((tables : List Table) → AreTablesOf photos tables → Said tables room given text) → IsOfTables Said r before room given text
+of_tables Said r told taken_before taken_now photos before room given text h e t still b said = record {
+  reads = h.reads;
+  lamp_files = record { all = h.size; read = rw (← e) h.read };
+  ended = record { taken = rw (← t) (h.taken before b); stood = still };
+  said = said (tables_of h.reads) h.are;
+}
 
-    by_status : (g : Status) → IsSceneAnswer (tables_of h.reads) room g text → IsReportAnswer r bytes room g text
-    by_status status.Done s = whole status.Done s
-    by_status status.Refused s = inr (whole status.Refused s)
-    by_status _ s = absurd s
-
-pub of_unread : (r : Run) (bytes : List ℕ) (room : Room) (given : Status) (text : List ℕ) → HasUnreadFile r room.files given text → IsReportAnswer r bytes room given text
-of_unread r bytes room status.Refused text h = inl h
-of_unread r bytes room status.ReadFault text h = h
-of_unread r bytes room _ text h = absurd (h.unread)
+pub of_claim : (r : Run) (told : Told) (taken_before taken_now : ℕ) (photos : List Table) (room : Room) (name : List ℕ) (given : Status) (text : List ℕ)
+    → HasRead told room.files taken_before taken_now (length room.files) photos → told ≡ r.files
+    → ((tables : List Table) → AreTablesOf photos tables → IsServed tables room × IsClaimAnswer r tables room name given text) → IsOfClaim r room name given text
+of_claim r told taken_before taken_now photos room name given text h e said = record {
+  reads = h.reads;
+  lamp_files = record { all = h.size; read = rw (← e) h.read };
+  served = (said (tables_of h.reads) h.are).0;
+  said = (said (tables_of h.reads) h.are).1;
+}
 
 -- the lamps of an accepted room shine by as many tables as it has files
 pub shining_by : (room : Room) (tables : List Table) → IsAccepted room → length tables ≡ length room.files → All (λ l. IsShine (length tables) l.shine) room.lamps

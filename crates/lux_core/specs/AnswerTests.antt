@@ -1,20 +1,24 @@
 -- Words and answers, computed.
 use Rattle.std.specs.Prelude.{◌≡◌, ◌++◌, ℕ, List, [], ◌∷◌, true, false, refl, codes, decimal, Some, None}
 use Rattle.std.specs.Fmt.{digits}
-use Rattle.std.proofs.Common.{lit≤, inl}
+use Rattle.std.proofs.Common.{lit≤, inl, inr}
 use Rattle.decimal_text.specs.Decimals.{thousandths}
 use Rattle.decimal_text.specs.Lines.{line}
 use Rattle.room_layout.specs.Place.{point_of}
 use Rattle.scene_system.specs.declared.fault.SceneFault.TheVariants as scene_fault
 use Rattle.lux_core.specs.Answers.{IsAnswer}
-use Rattle.lux_core.specs.ReportAnswers.{scene_fault_text}
+use Rattle.lux_core.specs.LightAnswers.{scene_fault_text}
+use Rattle.lux_core.specs.Spellings.{limits_status}
 use Rattle.lux_core.specs.Runs.{Run, run}
 use Rattle.lux_core.specs.Codes.{status_code}
-use Rattle.lux_core.specs.Commands.{names_file, number_after, coordinate, question_of, file_name, names_lm63, usage_line}
+use Rattle.lux_core.specs.Commands.{names_file, number_after, coordinate, question_of, file_name, claim_name, names_lm63, usage_line}
 use Rattle.lux_core.specs.declared.status.Status.TheVariants as status
+use Rattle.lux_core.specs.declared.words.FileQuestion.TheVariants as file
+use Rattle.lux_core.specs.declared.words.LightQuestion.TheVariants.{Report, Claim}
 use Rattle.lux_core.specs.declared.words.Question.TheVariants as question
 use Rattle.lux_core.specs.declared.words.Format.TheVariants.{Lm63, Eulumdat}
-use Rattle.lux_core.specs.declared.words.RoomQuestion.TheVariants.{Report, Sight}
+use Rattle.lux_core.specs.declared.words.RoomQuestion.TheVariants.{Light, Check, Sight}
+use Rattle.lux_core.specs.declared.words.Spelling.TheVariants.{Lines, Records}
 
 -- ---- numbers
 
@@ -80,24 +84,24 @@ report_words = codes "report" ∷ codes "room.toml" ∷ []
 abbrev sight_words : List ℕ → List (List ℕ)
 sight_words last = codes "sight" ∷ codes "room.toml" ∷ codes "0" ∷ codes "1500" ∷ codes "20" ∷ codes "3000" ∷ codes "7" ∷ last ∷ []
 
-asks_for_a_report : question_of report_words ≡ Some (question.Room Report)
+asks_for_a_report : question_of report_words ≡ Some (question.File (file.Room (Light (Report Lines))))
 asks_for_a_report = refl
 
 name_of_the_room : file_name report_words ≡ codes "room.toml"
 name_of_the_room = refl
 
 -- three words to a point, and a mm has two halves
-asks_for_sight : question_of (sight_words (codes "100000")) ≡ Some (question.Room (Sight (point_of (record { x = 0; y = 3000; z = 40 })) (point_of (record { x = 6000; y = 14; z = 200000 }))))
+asks_for_sight : question_of (sight_words (codes "100000")) ≡ Some (question.File (file.Room (Sight (point_of (record { x = 0; y = 3000; z = 40 })) (point_of (record { x = 6000; y = 14; z = 200000 })))))
 unfolding number_after
 asks_for_sight = refl
 
-asks_to_read : question_of (codes "read" ∷ codes "C.IeS" ∷ []) ≡ Some (question.Photometry Lm63)
+asks_to_read : question_of (codes "read" ∷ codes "C.IeS" ∷ []) ≡ Some (question.File (file.Photometry Lm63))
 asks_to_read = refl
 
-asks_for_the_first_set : question_of (codes "read" ∷ codes "A.LDT" ∷ []) ≡ Some (question.Photometry (Eulumdat 1))
+asks_for_the_first_set : question_of (codes "read" ∷ codes "A.LDT" ∷ []) ≡ Some (question.File (file.Photometry (Eulumdat 1)))
 asks_for_the_first_set = refl
 
-asks_for_the_last_set : question_of (codes "read" ∷ codes "a.ldt" ∷ codes "20" ∷ []) ≡ Some (question.Photometry (Eulumdat 20))
+asks_for_the_last_set : question_of (codes "read" ∷ codes "a.ldt" ∷ codes "20" ∷ []) ≡ Some (question.File (file.Photometry (Eulumdat 20)))
 unfolding number_after
 asks_for_the_last_set = refl
 
@@ -131,8 +135,28 @@ a_word_too_many = refl
 capital_letter : question_of (codes "Report" ∷ codes "room.toml" ∷ []) ≡ None
 capital_letter = refl
 
-not_built_yet : question_of (codes "grid" ∷ codes "room.toml" ∷ []) ≡ None
-not_built_yet = refl
+asks_for_the_grid : question_of (codes "grid" ∷ codes "room.toml" ∷ []) ≡ Some (question.File (file.Room (Light (Report Records))))
+asks_for_the_grid = refl
+
+asks_for_a_claim : question_of (codes "certify" ∷ codes "room.toml" ∷ []) ≡ Some (question.File (file.Room (Light Claim)))
+asks_for_a_claim = refl
+
+asks_to_check : question_of (codes "check" ∷ codes "room.toml" ∷ codes "claim.csv" ∷ []) ≡ Some (question.File (file.Room Check))
+asks_to_check = refl
+
+name_of_the_claim : claim_name (codes "check" ∷ codes "room.toml" ∷ codes "claim.csv" ∷ []) ≡ codes "claim.csv"
+name_of_the_claim = refl
+
+claim_without_a_name : question_of (codes "check" ∷ codes "room.toml" ∷ [] ∷ []) ≡ None
+claim_without_a_name = refl
+
+asks_for_a_trial : question_of (codes "trial" ∷ codes "40" ∷ []) ≡ Some (question.Trial 40)
+unfolding number_after
+asks_for_a_trial = refl
+
+trial_past_the_last : question_of (codes "trial" ∷ codes "41" ∷ []) ≡ None
+unfolding number_after
+trial_past_the_last = refl
 
 seven_words : question_of (codes "sight" ∷ codes "room.toml" ∷ codes "0" ∷ codes "0" ∷ codes "0" ∷ codes "0" ∷ codes "0" ∷ []) ≡ None
 seven_words = refl
@@ -170,10 +194,29 @@ abbrev run_of : ℕ → ℕ → Run
 run_of absences faults = run (Some []) 0 absences 0 faults 0
 
 usage_of_no_words : IsAnswer [] (run_of 0 0) status.Usage usage_line
-usage_of_no_words = record { none = refl; text_is = refl }
+usage_of_no_words = inl (record { status_is = refl; none = refl; text_is = refl })
 
 absent_room : IsAnswer report_words (run_of 1 0) status.Refused (codes "refused room.toml Absent\n")
-absent_room = record { asked = question.Room Report; command = refl; answer = inl (inl (record { text_is = refl; rose = lit≤ tt; faults = refl; told = refl; taken = λ e. cc })) }
+absent_room = inr (record {
+  asked = question.File (file.Room (Light (Report Lines)));
+  command = refl;
+  answer = inl (inl (record { status_is = refl; text_is = refl; rose = lit≤ tt; faults = refl; told = refl; taken = λ e. cc }));
+})
 
 read_fault_of_a_room : IsAnswer report_words (run_of 0 1) status.ReadFault (codes "read fault room.toml\n")
-read_fault_of_a_room = record { asked = question.Room Report; command = refl; answer = inl (record { text_is = refl; rose = lit≤ tt; absences = refl; taken = λ e. cc }) }
+read_fault_of_a_room = inr (record {
+  asked = question.File (file.Room (Light (Report Lines)));
+  command = refl;
+  answer = inl (inr (inr (record { status_is = refl; text_is = refl; rose = lit≤ tt; absences = refl; taken = λ e. cc })));
+})
+
+-- ---- limits, by ends in thousandths
+
+missed_before_undecided : limits_status (record { average = Some 300000; uniformity = Some 500 }) (record { average_lo = 299950; average_hi = 299990; uniformity = None }) ≡ status.Missed
+missed_before_undecided = refl
+
+undecided_within_the_ends : limits_status (record { average = Some 300000; uniformity = Some 500 }) (record { average_lo = 300000; average_hi = 300040; uniformity = Some (499, 501) }) ≡ status.Undecided
+undecided_within_the_ends = refl
+
+met_by_both : limits_status (record { average = Some 300000; uniformity = None }) (record { average_lo = 300000; average_hi = 300040; uniformity = None }) ≡ status.Done
+met_by_both = refl

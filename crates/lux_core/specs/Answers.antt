@@ -1,72 +1,91 @@
--- What a run of the planner may answer: which text goes with which status, and what was the cause.
+-- What a run of the planner may answer: which text goes with which status, and what was the cause. There is one alternative for each cause.
 use Rattle.std.specs.Prelude.{ℕ, ◌≡◌, ◌≤◌, ◌⊎◌, List, length, Option, Some, None}
 use Rattle.lux_io.specs.Files.{bytes_of}
-use Rattle.lux_core.specs.Commands.{question_of, file_name, usage_line}
+use Rattle.lux_core.specs.Commands.{question_of, file_name, claim_name, usage_line}
 use Rattle.lux_core.specs.Photometry.{IsPhotometryAnswer, CanSum}
 use Rattle.lux_core.specs.RoomAnswers.{IsRoomAnswer, CanTell}
-use Rattle.lux_core.specs.Runs.{Run, HasStood, IsContent, longest_file}
+use Rattle.lux_core.specs.Runs.{Run, EndedWith, IsContent, longest_file}
+use Rattle.lux_core.specs.Trials.{IsTrialAnswer, CanTry}
 use Rattle.lux_core.specs.Untaken.{IsUntaken}
 use Rattle.lux_core.specs.declared.status.Status.{Status}
 use Rattle.lux_core.specs.declared.status.Status.TheVariants as status
+use Rattle.lux_core.specs.declared.words.FileQuestion.{FileQuestion}
+use Rattle.lux_core.specs.declared.words.FileQuestion.TheVariants as file
+use Rattle.lux_core.specs.declared.words.LightQuestion.TheVariants.{Report}
 use Rattle.lux_core.specs.declared.words.Question.{Question}
 use Rattle.lux_core.specs.declared.words.Question.TheVariants as question
+use Rattle.lux_core.specs.declared.words.RoomQuestion.TheVariants.{Light, Check}
+use Rattle.lux_core.specs.declared.words.Spelling.TheVariants.{Lines}
 
 -- ---- what the bytes of a file give; a summary reads no other file
 
-abbrev pub IsBytesAnswer : Question → Run → (name bytes : List ℕ) → Status → List ℕ → Type 0
-IsBytesAnswer (question.Room asked) r name bytes given text = IsRoomAnswer asked r bytes given text
-IsBytesAnswer (question.Photometry format) r name bytes given text = (r.taken ≡ length bytes) × HasStood r × IsPhotometryAnswer format name bytes given text
+abbrev pub IsBytesAnswer : FileQuestion → Run → (name claim bytes : List ℕ) → Status → List ℕ → Type 0
+IsBytesAnswer (file.Room asked) r name claim bytes given text = IsRoomAnswer asked r bytes claim given text
+IsBytesAnswer (file.Photometry format) r name claim bytes given text = EndedWith r (Some bytes) × IsPhotometryAnswer format name bytes given text
 
 -- ---- what the name of a file gives
 
 -- the file was read whole, and its bytes give this
-pub record IsOfBytes (asked : Question) (r : Run) (name : List ℕ) (given_status : Status) (text : List ℕ) : Type 0 where
+pub record IsOfBytes (asked : FileQuestion) (r : Run) (name claim : List ℕ) (given : Status) (text : List ℕ) : Type 0 where
   pub bytes : List ℕ
   pub read : IsContent r.files name bytes
-  pub given : IsBytesAnswer asked r name bytes given_status text
+  pub said : IsBytesAnswer asked r name claim bytes given text
 
 -- or it wasn't taken from the shelf
-abbrev pub IsFileAnswer : Question → Run → (name : List ℕ) → Status → List ℕ → Type 0
-IsFileAnswer asked r name status.Done text = IsOfBytes asked r name status.Done text
-IsFileAnswer asked r name status.Refused text = IsUntaken r name status.Refused text ⊎ IsOfBytes asked r name status.Refused text
-IsFileAnswer asked r name status.ReadFault text = IsUntaken r name status.ReadFault text ⊎ IsOfBytes asked r name status.ReadFault text
-IsFileAnswer asked r name _ text = ⊥
+abbrev pub IsFileAnswer : FileQuestion → Run → (name claim : List ℕ) → Status → List ℕ → Type 0
+IsFileAnswer asked r name claim given text = IsUntaken r name given text ⊎ IsOfBytes asked r name claim given text
 
 -- ---- the answer to the words
 
 -- the words are no command
-pub record IsUsage (words : List (List ℕ)) (text : List ℕ) : Type 0 where
+pub record IsUsage (words : List (List ℕ)) (given : Status) (text : List ℕ) : Type 0 where
+  pub status_is : given ≡ status.Usage
   pub none : question_of words ≡ None
   pub text_is : text ≡ usage_line
 
--- the words ask something of a file, and the file gives this
-pub record IsAnswerOfFile (words : List (List ℕ)) (r : Run) (given_status : Status) (text : List ℕ) : Type 0 where
+-- what is asked, of the file that the second word names or of a made room
+abbrev pub IsAnswerTo : Question → List (List ℕ) → Run → Status → List ℕ → Type 0
+IsAnswerTo (question.File asked) words r given text = IsFileAnswer asked r (file_name words) (claim_name words) given text
+IsAnswerTo (question.Trial n) words r given text = IsTrialAnswer n r given text
+
+-- the words ask this, and this is its answer
+pub record IsOfQuestion (words : List (List ℕ)) (r : Run) (given : Status) (text : List ℕ) : Type 0 where
   pub asked : Question
   pub command : question_of words ≡ Some asked
-  pub answer : IsFileAnswer asked r (file_name words) given_status text
+  pub answer : IsAnswerTo asked words r given text
 
 -- the text that goes with a status, and why
 abbrev pub IsAnswer : List (List ℕ) → Run → Status → List ℕ → Type 0
-IsAnswer words r status.Usage text = IsUsage words text
-IsAnswer words r status.Done text = IsAnswerOfFile words r status.Done text
-IsAnswer words r status.Refused text = IsAnswerOfFile words r status.Refused text
-IsAnswer words r status.ReadFault text = IsAnswerOfFile words r status.ReadFault text
-IsAnswer words r _ text = ⊥
+IsAnswer words r given text = IsUsage words given text ⊎ IsOfQuestion words r given text
 
 -- ---- where an answer has to be given
 
 -- it can be told of these bytes, by the files that the shelf tells
-abbrev pub IsAble : Question → List (List ℕ × List ℕ) → List ℕ → Type 0
-IsAble (question.Room asked) told bytes = CanTell asked told bytes
-IsAble (question.Photometry format) told bytes = CanSum format bytes
+abbrev pub IsAble : FileQuestion → List (List ℕ × List ℕ) → (claim bytes : List ℕ) → Type 0
+IsAble (file.Room asked) told claim bytes = CanTell asked told bytes claim
+IsAble (file.Photometry format) told claim bytes = CanSum format bytes
 
--- the words ask something of a file that is on the shelf and is not too long, and of whose bytes it can be told
+-- the file is on the shelf and not too long, and of its bytes it can be told
+pub record CanTellFile (asked : FileQuestion) (told : List (List ℕ × List ℕ)) (name claim : List ℕ) : Type 0 where
+  pub bytes : List ℕ
+  pub found : bytes_of name told ≡ Some bytes
+  pub few : length bytes ≤ longest_file
+  pub able : IsAble asked told claim bytes
+
+abbrev pub CanTellOf : Question → List (List ℕ × List ℕ) → List (List ℕ) → Type 0
+CanTellOf (question.File asked) told words = CanTellFile asked told (file_name words) (claim_name words)
+CanTellOf (question.Trial n) told words = CanTry n told
+
+-- the words ask something that can be told, by a shelf that tells its files
 pub record CanAnswer (words : List (List ℕ)) (files : Option (List (List ℕ × List ℕ))) : Type 0 where
   pub asked : Question
   pub command : question_of words ≡ Some asked
   pub told : List (List ℕ × List ℕ)
   pub files_are : files ≡ Some told
-  pub bytes : List ℕ
-  pub found : bytes_of (file_name words) told ≡ Some bytes
-  pub few : length bytes ≤ longest_file
-  pub able : IsAble asked told bytes
+  pub able : CanTellOf asked told words
+
+-- the status of a whole answer: that of the limits where a report has its lines, that of the claim where one is checked, else done
+abbrev pub IsFullStatus : Question → Status → Type 0
+IsFullStatus (question.File (file.Room (Light (Report Lines)))) given = (given ≡ status.Done) ⊎ (given ≡ status.Missed) ⊎ (given ≡ status.Undecided)
+IsFullStatus (question.File (file.Room Check)) given = (given ≡ status.Done) ⊎ (given ≡ status.NotShown)
+IsFullStatus _ given = given ≡ status.Done

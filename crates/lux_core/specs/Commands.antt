@@ -1,6 +1,7 @@
 -- Which words are a command. Words are compared byte for byte, and nothing else is an option.
 use Rattle.std.specs.Prelude.{ℕ, Bool, map, drop, false, not, ◌+◌, ◌-◌, ◌*◌, ◌&&◌, ◌||◌, ◌==◌, nat_le, List, [], ◌∷◌, length, codes, slice_index_or, Option, Some, None, if◌then◌else◌}
 use Rattle.std.specs.List.{list_all}
+use Rattle.std.specs.Option.{option_map}
 use Rattle.std.specs.Char.{to_ascii_lowercase}
 use Rattle.std.specs.Str.{bytes_eq}
 use Rattle.room_layout.specs.Place.{point_of, place_of_size}
@@ -9,7 +10,11 @@ use Rattle.lux_core.specs.declared.words.Question.{Question}
 use Rattle.lux_core.specs.declared.words.Format.{Format}
 use Rattle.lux_core.specs.declared.words.Format.TheVariants.{Lm63, Eulumdat}
 use Rattle.lux_core.specs.declared.words.Question.TheVariants as question
-use Rattle.lux_core.specs.declared.words.RoomQuestion.TheVariants.{Report, Sight}
+use Rattle.lux_core.specs.declared.words.FileQuestion.TheVariants as file
+use Rattle.lux_core.specs.declared.words.LightQuestion.{LightQuestion}
+use Rattle.lux_core.specs.declared.words.LightQuestion.TheVariants.{Report, Claim}
+use Rattle.lux_core.specs.declared.words.RoomQuestion.TheVariants.{Light, Check, Sight}
+use Rattle.lux_core.specs.declared.words.Spelling.TheVariants.{Lines, Records}
 
 -- ---- the names of files
 
@@ -36,13 +41,22 @@ unfoldable pub number_after : ℕ → List ℕ → ℕ
 number_after n [] = n
 number_after n (digit ∷ more) = number_after (n * 10 + (digit - 48)) more
 
--- a coordinate in mm, from 0 to 100,000
-abbrev pub coordinate : List ℕ → Option ℕ
-coordinate word = if is_number word && nat_le (number_after 0 word) 100000 then Some (number_after 0 word) else None
+-- the number that a word says, where it lies from the least to the most
+abbrev pub number_within : (least most : ℕ) → List ℕ → Option ℕ
+number_within least most word =
+    if is_number word && nat_le least (number_after 0 word) && nat_le (number_after 0 word) most then Some (number_after 0 word) else None
 
--- the number of a lamp set, from 1 to 20
+-- a coordinate in mm
+abbrev pub coordinate : List ℕ → Option ℕ
+coordinate word = number_within 0 100000 word
+
+-- the number of a lamp set
 abbrev pub lamp_set : List ℕ → Option ℕ
-lamp_set word = if is_number word && nat_le 1 (number_after 0 word) && nat_le (number_after 0 word) 20 then Some (number_after 0 word) else None
+lamp_set word = number_within 1 20 word
+
+-- the number of a made room
+abbrev pub room_number : List ℕ → Option ℕ
+room_number word = number_within 1 40 word
 
 -- ---- the commands
 
@@ -59,7 +73,7 @@ point_at None y z = None
 
 -- the question whether two points see each other
 abbrev pub sight_between : Option Point → Option Point → Option Question
-sight_between (Some p) (Some q) = Some (question.Room (Sight p q))
+sight_between (Some p) (Some q) = Some (question.File (file.Room (Sight p q)))
 sight_between (Some p) None = None
 sight_between None q = None
 
@@ -76,7 +90,7 @@ abbrev pub chosen_set : List (List ℕ) → Option ℕ
 chosen_set words = if length words == 2 then Some 1 else (if length words == 3 then lamp_set (slice_index_or words 2 []) else None)
 
 abbrev pub summary_asked : List ℕ → Option ℕ → Option Question
-summary_asked name (Some set) = Some (question.Photometry (format_of name set))
+summary_asked name (Some set) = Some (question.File (file.Photometry (format_of name set)))
 summary_asked name None = None
 
 abbrev pub summary_of : List (List ℕ) → Option Question
@@ -90,21 +104,51 @@ is_command name words = bytes_eq (slice_index_or words 0 []) name
 abbrev pub names_a_file : List (List ℕ) → Bool
 names_a_file words = nat_le 2 (length words) && names_file (slice_index_or words 1 [])
 
--- what is asked of that file: `report ROOM`, `sight ROOM X Y Z X Y Z`, `read FILE` or `read FILE SET`
+-- what `report ROOM`, `grid ROOM` and `certify ROOM` ask of the room's light
+abbrev pub light_asked : List (List ℕ) → Option LightQuestion
+light_asked words =
+    if is_command (codes "report") words then Some (Report Lines)
+    else (if is_command (codes "grid") words then Some (Report Records)
+    else (if is_command (codes "certify") words then Some Claim else None))
+
+abbrev pub light_of : List (List ℕ) → Option Question
+light_of words = option_map (λ asked. question.File (file.Room (Light asked))) (light_asked words)
+
+-- `check ROOM CLAIM`
+abbrev pub check_of : List (List ℕ) → Option Question
+check_of words = if is_command (codes "check") words && names_file (slice_index_or words 2 []) then Some (question.File (file.Room Check)) else None
+
+-- what `sight ROOM X Y Z X Y Z` asks
+abbrev pub sight_of : List (List ℕ) → Option Question
+sight_of words =
+    sight_between (point_at (coordinate_at words 2) (coordinate_at words 3) (coordinate_at words 4)) (point_at (coordinate_at words 5) (coordinate_at words 6) (coordinate_at words 7))
+
+-- what is asked of the file that the second word names; `read FILE` and `read FILE SET` besides
 abbrev pub asked_of : List (List ℕ) → Option Question
 asked_of words =
-    if length words == 2 && is_command (codes "report") words then Some (question.Room Report)
-    else (if length words == 8 && is_command (codes "sight") words
-    then sight_between (point_at (coordinate_at words 2) (coordinate_at words 3) (coordinate_at words 4)) (point_at (coordinate_at words 5) (coordinate_at words 6) (coordinate_at words 7))
-    else (if is_command (codes "read") words then summary_of words else None))
+    if is_command (codes "read") words then summary_of words
+    else (if length words == 2 then light_of words
+    else (if length words == 3 then check_of words
+    else (if length words == 8 && is_command (codes "sight") words then sight_of words else None)))
 
--- what the words ask of a file
+-- `trial N`
+abbrev pub is_trial : List (List ℕ) → Bool
+is_trial words = length words == 2 && is_command (codes "trial") words
+
+abbrev pub trial_of : List (List ℕ) → Option Question
+trial_of words = option_map (λ n. question.Trial n) (room_number (slice_index_or words 1 []))
+
+-- what the words ask
 abbrev pub question_of : List (List ℕ) → Option Question
-question_of words = if names_a_file words then asked_of words else None
+question_of words = if is_trial words then trial_of words else (if names_a_file words then asked_of words else None)
 
 -- the name of the file
 abbrev pub file_name : List (List ℕ) → List ℕ
 file_name words = slice_index_or words 1 []
+
+-- the name of the claim's file
+abbrev pub claim_name : List (List ℕ) → List ℕ
+claim_name words = slice_index_or words 2 []
 
 abbrev pub usage_line : List ℕ
 usage_line = codes "usage: lux report ROOM | grid ROOM | read FILE [SET] | sight ROOM X Y Z X Y Z | certify ROOM | check ROOM CLAIM | trial N\n"

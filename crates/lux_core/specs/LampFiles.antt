@@ -1,14 +1,14 @@
 -- The photometric files of a room's lamps, read one after the other in the order in which the layout first names them.
-use Rattle.std.specs.Prelude.{ℕ, ◌≡◌, ◌<◌, ◌⊎◌, List, [], ◌∷◌, length, map, slice_index_or, Option}
+use Rattle.std.specs.Prelude.{ℕ, ◌≡◌, ◌<◌, ◌⊎◌, List, [], ◌∷◌, length, map, slice_index_or, Option, Some}
 use Rattle.photo_table.specs.Table.{Table}
 use Rattle.direct_light.specs.Shares.{no_table}
 use Rattle.room_layout.specs.declared.room.FileUse.{FileUse}
+use Rattle.room_layout.specs.declared.room.Room.{Room}
 use Rattle.lux_core.specs.Commands.{format_of}
 use Rattle.lux_core.specs.Photometry.{IsTableOfFile, IsFileRefusal}
-use Rattle.lux_core.specs.Runs.{Run, HasStood, IsContent}
+use Rattle.lux_core.specs.Runs.{Run, EndedWith, IsContent}
 use Rattle.lux_core.specs.Untaken.{IsUntaken}
 use Rattle.lux_core.specs.declared.status.Status.{Status}
-use Rattle.lux_core.specs.declared.status.Status.TheVariants as status
 
 abbrev pub no_file : FileUse
 no_file = record { name = []; set = 0 }
@@ -33,29 +33,31 @@ pub record WasRead (told : Option (List (List ℕ × List ℕ))) (file : FileUse
 pub record WereRead (told : Option (List (List ℕ × List ℕ))) (files : List FileUse) (reads : List LampFile) : Type 0 where
   pub each : (k : ℕ) → k < length reads → WasRead told (file_at files k) (slice_index_or reads k nothing_read)
 
--- the bytes that were read last, of the room's file and those of its lamps
-abbrev pub last_bytes : List ℕ → List LampFile → List ℕ
-last_bytes bytes [] = bytes
-last_bytes bytes (read ∷ more) = last_bytes read.bytes more
+-- the bytes that were read last: those of the last of these files, and where there are none those that were read before them
+abbrev pub last_read : Option (List ℕ) → List LampFile → Option (List ℕ)
+last_read before [] = before
+last_read before (read ∷ more) = last_read (Some read.bytes) more
 
 abbrev pub tables_of : List LampFile → List Table
 tables_of reads = map (λ read. read.table) reads
 
--- ---- a file that stands in the way of a report
+-- the files of a room's lamps were all read
+pub record HasLampFiles (r : Run) (room : Room) (reads : List LampFile) : Type 0 where
+  pub all : length reads ≡ length room.files
+  pub read : WereRead r.files room.files reads
+
+-- ---- a file that stands in the way
 
 -- its format refuses its bytes
-pub record IsRefusedFile (r : Run) (file : FileUse) (text : List ℕ) : Type 0 where
+pub record IsRefusedFile (r : Run) (file : FileUse) (given : Status) (text : List ℕ) : Type 0 where
   pub bytes : List ℕ
   pub content : IsContent r.files file.name bytes
-  pub taken : r.taken ≡ length bytes
-  pub stood : HasStood r
-  pub refusal : IsFileRefusal (format_of file.name file.set) file.name bytes text
+  pub ended : EndedWith r (Some bytes)
+  pub refusal : IsFileRefusal (format_of file.name file.set) file.name bytes given text
 
 -- or it can't be taken from the shelf
 abbrev pub IsUnreadFile : Run → FileUse → Status → List ℕ → Type 0
-IsUnreadFile r file status.Refused text = IsUntaken r file.name status.Refused text ⊎ IsRefusedFile r file text
-IsUnreadFile r file status.ReadFault text = IsUntaken r file.name status.ReadFault text
-IsUnreadFile r file _ text = ⊥
+IsUnreadFile r file given text = IsUntaken r file.name given text ⊎ IsRefusedFile r file given text
 
 -- the files before it were read
 pub record HasUnreadFile (r : Run) (files : List FileUse) (given : Status) (text : List ℕ) : Type 0 where

@@ -1,9 +1,12 @@
+pub mod Trials
 pub mod Answers
 pub mod Photometry
 pub mod Untaken
 pub mod LampFiles
 pub mod LampTables
-pub mod ReportAnswers
+pub mod Spellings
+pub mod LightAnswers
+pub mod Claims
 pub mod RoomAnswers
 pub mod Runs
 pub mod Codes

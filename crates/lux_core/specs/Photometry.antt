@@ -1,5 +1,5 @@
 -- What the bytes of a photometric file give: the table of its luminaire, or the first fault of the file.
-use Rattle.std.specs.Prelude.{ℕ, ◌≡◌, ◌≢◌, List, ◌++◌, codes, Ok, Err}
+use Rattle.std.specs.Prelude.{ℕ, ◌≡◌, ◌≢◌, ◌⊎◌, List, ◌++◌, codes, Ok, Err}
 use Rattle.decimal_text.specs.Lines.{line}
 use Rattle.photo_table.specs.Exact.{IsRoundedOf}
 use Rattle.photo_table.specs.Kept.{IsSummary}
@@ -52,7 +52,8 @@ table_fault_text (table_fault.Lm63 fault) = ies_text.fault_text fault
 table_fault_text (table_fault.Eulumdat fault) = ldt_text.fault_text fault
 
 -- the text names the file and its fault
-pub record IsFileRefusal (format : Format) (name bytes text : List ℕ) : Type 0 where
+pub record IsFileRefusal (format : Format) (name bytes : List ℕ) (given : Status) (text : List ℕ) : Type 0 where
+  pub status_is : given ≡ status.Refused
   pub fault : TableFault
   pub no_want : IsNoWant fault
   pub refused : IsFaultOfFile format bytes fault
@@ -61,15 +62,14 @@ pub record IsFileRefusal (format : Format) (name bytes text : List ℕ) : Type 0
 -- ---- the answer to `read`
 
 -- the text sums up the table of the file
-pub record IsFileSummary (format : Format) (bytes text : List ℕ) : Type 0 where
+pub record IsFileSummary (format : Format) (bytes : List ℕ) (given : Status) (text : List ℕ) : Type 0 where
+  pub status_is : given ≡ status.Done
   pub table : Table
   pub is : IsReadAs format bytes table
   pub summary : IsSummary table text
 
 abbrev pub IsPhotometryAnswer : Format → (name bytes : List ℕ) → Status → List ℕ → Type 0
-IsPhotometryAnswer format name bytes status.Done text = IsFileSummary format bytes text
-IsPhotometryAnswer format name bytes status.Refused text = IsFileRefusal format name bytes text
-IsPhotometryAnswer format name bytes _ text = ⊥
+IsPhotometryAnswer format name bytes given text = IsFileSummary format bytes given text ⊎ IsFileRefusal format name bytes given text
 
 -- the file is accepted, and so it can be summed up
 abbrev pub CanSum : Format → List ℕ → Type 0

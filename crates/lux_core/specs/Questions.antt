@@ -1,16 +1,19 @@
 -- The ranges of what is asked.
 use Rattle.std.specs.Prelude.{ℕ, ◌≤◌}
 use Rattle.sight_line.specs.Reach.{IsInReach}
+use Rattle.lux_core.specs.declared.words.FileQuestion.{FileQuestion}
+use Rattle.lux_core.specs.declared.words.FileQuestion.TheVariants as file
 use Rattle.lux_core.specs.declared.words.Question.{Question}
 use Rattle.lux_core.specs.declared.words.Question.TheVariants as question
 use Rattle.lux_core.specs.declared.words.Format.{Format}
 use Rattle.lux_core.specs.declared.words.Format.TheVariants.{Lm63, Eulumdat}
 use Rattle.lux_core.specs.declared.words.RoomQuestion.{RoomQuestion}
-use Rattle.lux_core.specs.declared.words.RoomQuestion.TheVariants.{Report, Sight}
+use Rattle.lux_core.specs.declared.words.RoomQuestion.TheVariants.{Light, Check, Sight}
 
 -- points within 100 m of the corner of the room
 abbrev pub IsWithinReach : RoomQuestion → Type 0
-IsWithinReach Report = Unit {0}
+IsWithinReach (Light asked) = Unit {0}
+IsWithinReach Check = Unit {0}
 IsWithinReach (Sight p q) = IsInReach p × IsInReach q
 
 -- the number of a lamp set
@@ -22,6 +25,15 @@ abbrev pub IsFormat : Format → Type 0
 IsFormat Lm63 = Unit {0}
 IsFormat (Eulumdat set) = IsLampSet set
 
+-- what is asked of a file
+abbrev pub IsFileQuestion : FileQuestion → Type 0
+IsFileQuestion (file.Room asked) = IsWithinReach asked
+IsFileQuestion (file.Photometry format) = IsFormat format
+
+-- the number of a made room
+abbrev pub IsRoomNumber : ℕ → Type 0
+IsRoomNumber n = (1 ≤ n) × (n ≤ 40)
+
 abbrev pub IsInRange : Question → Type 0
-IsInRange (question.Room asked) = IsWithinReach asked
-IsInRange (question.Photometry format) = IsFormat format
+IsInRange (question.File asked) = IsFileQuestion asked
+IsInRange (question.Trial n) = IsRoomNumber n

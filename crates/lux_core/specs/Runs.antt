@@ -29,6 +29,11 @@ pub record HasStood (r : Run) : Type 0 where
   pub absences : r.absences.now ≡ r.absences.before
   pub faults : r.faults.now ≡ r.faults.before
 
+-- the run counted nothing else but what it took: these are the bytes of the file that was opened last, where one was
+pub record EndedWith (r : Run) (last : Option (List ℕ)) : Type 0 where
+  pub taken : IfSome last (λ bytes. r.taken ≡ length bytes)
+  pub stood : HasStood r
+
 -- the greatest number of bytes of a file
 abbrev pub longest_file : ℕ
 longest_file = 16777216

@@ -9,7 +9,8 @@ use Rattle.lux_core.specs.declared.status.Status.{Status}
 use Rattle.lux_core.specs.declared.status.Status.TheVariants as status
 
 -- there is no file of that name
-pub record IsAbsent (r : Run) (name text : List ℕ) : Type 0 where
+pub record IsAbsent (r : Run) (name : List ℕ) (given : Status) (text : List ℕ) : Type 0 where
+  pub status_is : given ≡ status.Refused
   pub text_is : text ≡ line (codes "refused " ++ name ++ codes " Absent")
   pub rose : Rose r.absences.before r.absences.now
   pub faults : r.faults.now ≡ r.faults.before
@@ -17,23 +18,24 @@ pub record IsAbsent (r : Run) (name text : List ℕ) : Type 0 where
   pub taken : r.taken ≢ longest_file + 1
 
 -- the file has too many bytes
-pub record IsTooLong (r : Run) (name text : List ℕ) : Type 0 where
+pub record IsTooLong (r : Run) (name : List ℕ) (given : Status) (text : List ℕ) : Type 0 where
+  pub status_is : given ≡ status.Refused
   pub text_is : text ≡ line (codes "refused " ++ name ++ codes " TooLong")
   pub taken : r.taken ≡ longest_file + 1
   pub stood : HasStood r
   pub told : IfSome r.files (λ files. IsSomeAnd (bytes_of name files) (λ bytes. longest_file < length bytes))
 
 -- the file couldn't be read
-pub record IsReadFault (r : Run) (name text : List ℕ) : Type 0 where
+pub record IsReadFault (r : Run) (name : List ℕ) (given : Status) (text : List ℕ) : Type 0 where
+  pub status_is : given ≡ status.ReadFault
   pub text_is : text ≡ line (codes "read fault " ++ name)
   pub rose : Rose r.faults.before r.faults.now
   pub absences : r.absences.now ≡ r.absences.before
   pub taken : r.taken ≢ longest_file + 1
 
+-- one of these
 abbrev pub IsUntaken : Run → (name : List ℕ) → Status → List ℕ → Type 0
-IsUntaken r name status.Refused text = IsAbsent r name text ⊎ IsTooLong r name text
-IsUntaken r name status.ReadFault text = IsReadFault r name text
-IsUntaken r name _ text = ⊥
+IsUntaken r name given text = IsAbsent r name given text ⊎ IsTooLong r name given text ⊎ IsReadFault r name given text
 
 -- ---- by the fault alone
 

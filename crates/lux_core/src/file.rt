@@ -1,14 +1,14 @@
 //! The answer to what is asked of a file: the file is taken from the shelf, and its bytes answer.
-ghost use Rattle.std.specs.Prelude.{◌≡◌, ◌≤◌, length, IfOk, string_bytes};
+ghost use Rattle.std.specs.Prelude.{◌≡◌, ◌≤◌, length, IfOk};
 ghost use Rattle.lux_core.specs.Answers.{IsBytesAnswer, IsFileAnswer};
-ghost use Rattle.lux_core.specs.Questions.{IsInRange};
+ghost use Rattle.lux_core.specs.Questions.{IsFileQuestion};
 ghost use Rattle.lux_core.specs.Runs.{run};
 
 use crate::photometry::reply_to_photometry;
 use crate::reply::Reply;
 use crate::room::reply_to_room;
 use crate::untaken::{LONGEST_FILE, reply_to_fault};
-use crate::words::Question;
+use crate::words::FileQuestion;
 use fx_base::Memory;
 use lux_io::{Shelf, take_file};
 use std::alloc::Global;
@@ -16,47 +16,50 @@ use std::alloc::Global;
 /// The answer to the bytes of a file.
 fn reply_to_bytes<S: Shelf>(
     alloc: Global,
-    asked: Question,
+    asked: FileQuestion,
     name: &str,
+    claim: &str,
     bytes: &[u8],
     shelf: &mut S,
 ) -> Result<Reply, Memory>
-    requires asked { IsInRange asked }
+    requires asked { IsFileQuestion asked }
     requires few { length bytes.now ≤ 16777216 }
     requires taken { S.taken shelf.old ≡ length bytes.now }
     ensures files { S.files shelf.new ≡ S.files shelf.old }
     ensures answered { IfOk result (λ r. IsBytesAnswer asked
         (run (S.files shelf.old) (S.absences shelf.old) (S.absences shelf.new)
-        (S.faults shelf.old) (S.faults shelf.new) (S.taken shelf.new)) name.now bytes.now r.status (string_bytes r.text)) }
+        (S.faults shelf.old) (S.faults shelf.new) (S.taken shelf.new)) name.now claim.now bytes.now r.status r.text.items) }
 {
     match asked {
-        Question::Room(asked) => {
-            let reply = reply_to_room(alloc, asked, bytes, shelf)?;
+        FileQuestion::Room(asked) => {
+            let reply = reply_to_room(alloc, asked, bytes, claim, shelf)?;
             Ok(reply)
         }
-        Question::Photometry(format) => {
+        FileQuestion::Photometry(format) => {
             let reply = reply_to_photometry(alloc, format, name, bytes)?;
             Ok(reply)
         }
     }
 }
 
-/// The answer to what is asked of the file of this name, made whole before anything is written.
-pub fn reply_to<S: Shelf>(
+/// The answer to what is asked of the file of this name, made whole before anything is written. `claim` is the name of the file that
+/// `check` looks at.
+pub fn reply_to_file<S: Shelf>(
     alloc: Global,
-    asked: Question,
+    asked: FileQuestion,
     name: &str,
+    claim: &str,
     shelf: &mut S,
 ) -> Result<Reply, Memory>
-    requires { IsInRange asked }
+    requires { IsFileQuestion asked }
     ensures files { S.files shelf.new ≡ S.files shelf.old }
     ensures answered { IfOk result (λ r. IsFileAnswer asked
         (run (S.files shelf.old) (S.absences shelf.old) (S.absences shelf.new)
-        (S.faults shelf.old) (S.faults shelf.new) (S.taken shelf.new)) name.now r.status (string_bytes r.text)) }
+        (S.faults shelf.old) (S.faults shelf.new) (S.taken shelf.new)) name.now claim.now r.status r.text.items) }
 {
     match take_file(alloc, shelf, name, LONGEST_FILE) {
         Ok(bytes) => {
-            let reply = reply_to_bytes(alloc, asked, name, bytes.as_slice(), shelf)?;
+            let reply = reply_to_bytes(alloc, asked, name, claim, bytes.as_slice(), shelf)?;
             Ok(reply)
         }
         Err(fault) => {

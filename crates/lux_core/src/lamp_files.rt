@@ -10,7 +10,6 @@ ghost use Rattle.lux_core.specs.Runs.{run};
 
 use crate::photometry::{read_table, refused_file};
 use crate::reply::{Halt, Reply};
-use crate::status::Status;
 use crate::untaken::{LONGEST_FILE, reply_to_fault};
 use crate::words::format_of;
 use lux_io::{Shelf, take_file};
@@ -23,15 +22,14 @@ fn table_of_bytes(alloc: Global, file: &FileUse, bytes: &[u8]) -> Result<PhotoTa
     requires file { IsFileUse file.now }
     requires few { length bytes.now ≤ 16777216 }
     ensures read { IfOk result (IsReadAs (format_of file.now.name file.now.set) bytes.now) }
-    ensures refused { IfErr result (λ halt. Says halt (λ given text. (given ≡ Status.Refused) × IsFileRefusal (format_of file.now.name file.now.set) file.now.name bytes.now text)) }
+    ensures refused { IfErr result (λ halt. Says halt (IsFileRefusal (format_of file.now.name file.now.set) file.now.name bytes.now)) }
 {
     let name = file.name.text();
     match read_table(alloc, format_of(name, file.set), bytes) {
         Ok(table) => Ok(table),
         Err(fault) => {
             let text = refused_file(alloc, name, fault)?;
-            let status = Status::Refused;
-            Err(Halt::Said(Reply { status, text }))
+            Err(Halt::Said(Reply::refused(text)))
         }
     }
 }

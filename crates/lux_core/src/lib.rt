@@ -1,17 +1,21 @@
 //! The planner: the words of the command line in, a status and one text out.
 #![tactic(auto)]
 
+mod claim;
 mod file;
 mod lamp_files;
+mod light;
 mod photometry;
 mod program;
 mod reply;
-mod report;
 mod room;
+mod scene;
+mod spelling;
 mod status;
 #[cfg(test)]
 mod tests;
 mod top;
+mod trial;
 mod untaken;
 mod words;
 

@@ -65,18 +65,16 @@ pub fn reply_to_photometry(
 ) -> Result<Reply, Memory>
     requires format { IsFormat format }
     requires few { length bytes.now ≤ 16777216 }
-    ensures { IfOk result (λ r. IsPhotometryAnswer format name.now bytes.now r.status (string_bytes r.text)) }
+    ensures { IfOk result (λ r. IsPhotometryAnswer format name.now bytes.now r.status r.text.items) }
 {
     match read_table(alloc, format, bytes) {
         Ok(table) => {
             let text = summary_text(alloc, &table)?;
-            let status = Status::Done;
-            Ok(Reply { status, text })
+            Ok(Reply::new(Status::Done, text))
         }
         Err(fault) => {
             let text = refused_file(alloc, name, fault)?;
-            let status = Status::Refused;
-            Ok(Reply { status, text })
+            Ok(Reply::refused(text))
         }
     }
 }

@@ -1,5 +1,5 @@
 //! What a run answers.
-ghost use Rattle.std.specs.Prelude.{◌≡◌};
+ghost use Rattle.std.specs.Prelude.{◌≡◌, string_bytes};
 ghost use Rattle.lux_core.specs.declared.reply.Halt.TheVariants as Halt;
 
 use crate::status::Status;
@@ -10,7 +10,28 @@ use std::alloc::AllocFailed;
 #[derive(Drop)]
 pub struct Reply {
     pub status: Status,
-    pub text: String,
+    pub text: Vec<u8>,
+}
+
+impl Reply {
+    /// The answer of this status, with this text.
+    pub fn new(status: Status, text: String) -> Reply
+        ensures status { result.status ≡ status }
+        ensures text { result.text.items ≡ string_bytes text }
+    {
+        Reply {
+            status,
+            text: text.into_bytes(),
+        }
+    }
+
+    /// The line of an input that is refused.
+    pub fn refused(text: String) -> Reply
+        ensures status { result.status ≡ Status.Refused }
+        ensures text { result.text.items ≡ string_bytes text }
+    {
+        Reply::new(Status::Refused, text)
+    }
 }
 
 /// Why what was read gives no value.

@@ -1,13 +1,17 @@
-//! What is asked of a room: its report, or whether two of its points see each other.
-ghost use Rattle.std.specs.Prelude.{◌≡◌, IfOk, length, string_bytes};
+//! What is asked of a room: its light, whether it shows a claim, or whether two of its points see each other.
+ghost use Rattle.std.specs.Prelude.{◌≡◌, ◌++◌, codes, IfOk, length, List, ℕ};
+ghost use Rattle.decimal_text.specs.Lines.{line};
+ghost use Rattle.room_layout.specs.Accepted.{IsAccepted};
+ghost use Rattle.room_layout.specs.FaultText.{fault_text};
 ghost use Rattle.room_layout.specs.Place.{place_of};
 ghost use Rattle.sight_line.specs.Reach.{IsInReach};
 ghost use Rattle.lux_core.specs.Questions.{IsWithinReach};
-ghost use Rattle.lux_core.specs.RoomAnswers.{IsRoomAnswer, IsSightAnswer};
+ghost use Rattle.lux_core.specs.RoomAnswers.{IsRoomAnswer, IsSaidOf, IsSightAnswer};
 ghost use Rattle.lux_core.specs.Runs.{run};
 
+use crate::claim::reply_of_check;
+use crate::light::reply_of_light;
 use crate::reply::Reply;
-use crate::report::reply_of_report;
 use crate::status::Status;
 use crate::words::RoomQuestion;
 use fx_base::Memory;
@@ -16,30 +20,67 @@ use room_layout::{Point, Room, RoomFault, read_room};
 use sight_line::blocked_by;
 use std::alloc::Global;
 
+/// The line of a layout that is refused.
+pub fn refused_layout(alloc: Global, fault: RoomFault) -> Result<Reply, Memory>
+    ensures status { IfOk result (λ r. r.status ≡ Status.Refused) }
+    ensures text { IfOk result (λ r. r.text.items ≡ line (codes "refused room " ++ fault_text fault)) }
+{
+    let said = fault.text(alloc)?;
+    let text = format!(in alloc; "refused room {said}\n")?;
+    Ok(Reply::refused(text))
+}
+
 /// Whether two points of a room see each other: the first box between them, if there is one.
 fn reply_of_sight(alloc: Global, room: &Room, from: Point, to: Point) -> Result<Reply, Memory>
     requires from { IsInReach from }
     requires to { IsInReach to }
-    ensures { IfOk result (λ r. IsSightAnswer (place_of from) (place_of to) room.now r.status (string_bytes r.text)) }
+    ensures { IfOk result (λ r. IsSightAnswer (place_of from) (place_of to) room.now r.status r.text.items) }
 {
-    let status = Status::Done;
-    match blocked_by(room.blocks.as_slice(), from, to) {
-        None => {
-            let text = String::from_str(alloc, "clear\n")?;
-            Ok(Reply { status, text })
+    let text = match blocked_by(room.blocks.as_slice(), from, to) {
+        None => String::from_str(alloc, "clear\n")?,
+        Some(index) => format!(in alloc; "blocked {index}\n")?,
+    };
+    Ok(Reply::new(Status::Done, text))
+}
+
+/// The answer to a question on an accepted room, whose file was the last one taken from the shelf.
+fn reply_of_room<S: Shelf>(
+    alloc: Global,
+    asked: RoomQuestion,
+    room: &Room,
+    claim: &str,
+    shelf: &mut S,
+) -> Result<Reply, Memory>
+    requires asked { IsWithinReach asked }
+    requires accepted { IsAccepted room.now }
+    ensures files { S.files shelf.new ≡ S.files shelf.old }
+    ensures answered { IfOk result (λ r. (bytes : List ℕ) → S.taken shelf.old ≡ length bytes → IsSaidOf asked
+        (run (S.files shelf.old) (S.absences shelf.old) (S.absences shelf.new)
+        (S.faults shelf.old) (S.faults shelf.new) (S.taken shelf.new)) bytes claim.now room.now r.status r.text.items) }
+{
+    match asked {
+        RoomQuestion::Light(asked) => {
+            let reply = reply_of_light(alloc, asked, room, shelf)?;
+            Ok(reply)
         }
-        Some(index) => {
-            let text = format!(in alloc; "blocked {index}\n")?;
-            Ok(Reply { status, text })
+        RoomQuestion::Check => {
+            let reply = reply_of_check(alloc, room, claim, shelf)?;
+            Ok(reply)
+        }
+        RoomQuestion::Sight(from, to) => {
+            let reply = reply_of_sight(alloc, room, from, to)?;
+            Ok(reply)
         }
     }
 }
 
-/// The answer to the bytes of a room file, which were the last ones taken from the shelf.
+/// The answer to the bytes of a room file, which were the last ones taken from the shelf. `claim` is the name of the file that `check`
+/// looks at.
 pub fn reply_to_room<S: Shelf>(
     alloc: Global,
     asked: RoomQuestion,
     bytes: &[u8],
+    claim: &str,
     shelf: &mut S,
 ) -> Result<Reply, Memory>
     requires asked { IsWithinReach asked }
@@ -47,25 +88,16 @@ pub fn reply_to_room<S: Shelf>(
     ensures files { S.files shelf.new ≡ S.files shelf.old }
     ensures answered { IfOk result (λ r. IsRoomAnswer asked
         (run (S.files shelf.old) (S.absences shelf.old) (S.absences shelf.new)
-        (S.faults shelf.old) (S.faults shelf.new) (S.taken shelf.new)) bytes.now r.status (string_bytes r.text)) }
+        (S.faults shelf.old) (S.faults shelf.new) (S.taken shelf.new)) bytes.now claim.now r.status r.text.items) }
 {
-    let room = match read_room(alloc, bytes) {
-        Ok(room) => room,
-        Err(RoomFault::Memory) => return Err(Memory),
-        Err(fault) => {
-            let fault = fault.text(alloc)?;
-            let text = format!(in alloc; "refused room {fault}\n")?;
-            let status = Status::Refused;
-            return Ok(Reply { status, text });
-        }
-    };
-    match asked {
-        RoomQuestion::Report => {
-            let reply = reply_of_report(alloc, &room, shelf)?;
+    match read_room(alloc, bytes) {
+        Ok(room) => {
+            let reply = reply_of_room(alloc, asked, &room, claim, shelf)?;
             Ok(reply)
         }
-        RoomQuestion::Sight(from, to) => {
-            let reply = reply_of_sight(alloc, &room, from, to)?;
+        Err(RoomFault::Memory) => Err(Memory),
+        Err(fault) => {
+            let reply = refused_layout(alloc, fault)?;
             Ok(reply)
         }
     }

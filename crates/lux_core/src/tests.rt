@@ -1,8 +1,12 @@
 //! Whole runs over the files and the output that stand in for the real ones.
+mod claims;
 mod faults;
+mod grids;
 mod lamp_files;
 mod lamps;
+mod limits;
 mod luminaires;
+mod made_rooms;
 mod office;
 mod panel;
 mod reads;
@@ -10,6 +14,7 @@ mod refusals;
 mod reports;
 mod rooms;
 mod sights;
+mod trials;
 mod untold;
 
 use crate::{Status, lux};

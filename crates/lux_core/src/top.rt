@@ -1,14 +1,18 @@
 //! The top call: from the words to the text.
-ghost use Rattle.std.specs.Prelude.{◌≡◌, ◌≢◌, ℕ, ◌⊎◌, List, map, string_bytes, None};
+ghost use Rattle.std.specs.Prelude.{◌≡◌, ◌≢◌, ◌≤◌, ℕ, ◌⊎◌, IfOk, length, List, map, string_bytes, None};
 ghost use Rattle.lux_io.specs.Files.{with_bytes, AddsPrefix, Rose, Stood};
-ghost use Rattle.lux_core.specs.Answers.{CanAnswer, IsAnswer};
+ghost use Rattle.lux_core.specs.Answers.{CanAnswer, IsAnswer, IsAnswerTo, IsFullStatus};
 ghost use Rattle.lux_core.specs.Commands.{question_of};
+ghost use Rattle.lux_core.specs.Questions.{IsInRange};
 ghost use Rattle.lux_core.specs.Runs.{run};
 
-use crate::file::reply_to;
+use crate::file::reply_to_file;
+use crate::reply::Reply;
 use crate::status::Status;
-use crate::words::{USAGE, file_name, question_of};
-use lux_io::{Sink, put_all};
+use crate::trial::reply_to_trial;
+use crate::words::{Question, USAGE, claim_name, file_name, question_of};
+use fx_base::Memory;
+use lux_io::{Shelf, Sink, put_all};
 use std::alloc::Global;
 
 /// Writes a whole text; the status is the one given, or that the sink failed.
@@ -24,19 +28,42 @@ fn written<O: Sink>(out: &mut O, status: Status, text: &[u8]) -> Status
     }
 }
 
-/// Runs a command: `report ROOM` reads a room layout and the photometric files of its lamps from the shelf and writes the illuminance
-/// at its task points, the average and the uniformity; `sight ROOM X Y Z X Y Z` writes whether a box of the room stands between two
-/// points, in mm, and which is the first; `read FILE` and `read FILE SET` sum up a photometric file. `words` are those after the
+/// The answer to what the words ask, made whole before anything is written.
+fn reply_to<S: Shelf>(
+    alloc: Global,
+    asked: Question,
+    words: &[String],
+    shelf: &mut S,
+) -> Result<Reply, Memory>
+    requires asked { IsInRange asked }
+    requires two { 2 ≤ length words.now }
+    ensures files { S.files shelf.new ≡ S.files shelf.old }
+    ensures answered { IfOk result (λ r. IsAnswerTo asked (map string_bytes words.now)
+        (run (S.files shelf.old) (S.absences shelf.old) (S.absences shelf.new)
+        (S.faults shelf.old) (S.faults shelf.new) (S.taken shelf.new)) r.status r.text.items) }
+{
+    match asked {
+        Question::File(asked) => {
+            let reply = reply_to_file(alloc, asked, file_name(words), claim_name(words), shelf)?;
+            Ok(reply)
+        }
+        Question::Trial(number) => {
+            let reply = reply_to_trial(alloc, number, shelf)?;
+            Ok(reply)
+        }
+    }
+}
+
+/// Runs a command. `report ROOM` reads a room layout and the photometric files of its lamps from the shelf and writes the illuminance
+/// at its task points, the average and the uniformity, and whether each limit is met; `grid ROOM` writes the points as comma-separated
+/// values. `certify ROOM` writes bounds of the light of its patches as a claim, and `check ROOM CLAIM` checks such a claim without
+/// solving. `sight ROOM X Y Z X Y Z` writes whether a box of the room stands between two points, in mm, and which is the first;
+/// `read FILE` and `read FILE SET` sum up a photometric file; `trial N` sums up the report of a made room. `words` are those after the
 /// program's name.
 ///
 /// The text is made whole before its first byte is written, and what it says is proved: see the definitions `IsAnswer` and
 /// `IsRight`.
-pub fn lux<S: lux_io::Shelf, O: Sink>(
-    alloc: Global,
-    words: &[String],
-    shelf: &mut S,
-    out: &mut O,
-) -> Status
+pub fn lux<S: Shelf, O: Sink>(alloc: Global, words: &[String], shelf: &mut S, out: &mut O) -> Status
     // The text that was written is the answer of this status, with its cause.
     ensures answered { result ≢ Status.WriteFault → result ≢ Status.Memory →
         (text : List ℕ) × (O.written out.new ≡ with_bytes (O.written out.old) text) × IsAnswer (map string_bytes words.now)
@@ -49,9 +76,9 @@ pub fn lux<S: lux_io::Shelf, O: Sink>(
         (S.faults shelf.old) (S.faults shelf.new) (S.taken shelf.new)) status text }
     ensures write_fault { result ≡ Status.WriteFault → Rose (O.faults out.old) (O.faults out.new) }
     // Where an answer can be given and nothing fails, only want of memory is answered in its place.
-    ensures complete { CanAnswer (map string_bytes words.now) (S.files shelf.old) →
+    ensures complete { (can : CanAnswer (map string_bytes words.now) (S.files shelf.old)) →
         Stood (S.faults shelf.old) (S.faults shelf.new) → Stood (O.faults out.old) (O.faults out.new) →
-        (result ≡ Status.Done) ⊎ (result ≡ Status.Memory) }
+        IsFullStatus can.asked result ⊎ (result ≡ Status.Memory) }
     // The shelf holds what it held.
     ensures files { S.files shelf.new ≡ S.files shelf.old }
     // Words that are no command leave the shelf as it is.
@@ -63,8 +90,8 @@ pub fn lux<S: lux_io::Shelf, O: Sink>(
     let Some(asked) = question_of(words) else {
         return written(out, Status::Usage, USAGE.as_bytes());
     };
-    let Ok(reply) = reply_to(alloc, asked, file_name(words), shelf) else {
+    let Ok(reply) = reply_to(alloc, asked, words, shelf) else {
         return Status::Memory;
     };
-    written(out, reply.status, reply.text.as_bytes())
+    written(out, reply.status, reply.text.as_slice())
 }

@@ -4,7 +4,7 @@ ghost use Rattle.std.specs.List.{list_all};
 ghost use Rattle.std.specs.Option.{option_map};
 ghost use Rattle.room_layout.specs.Place.{place_of_size, point_of};
 ghost use Rattle.sight_line.specs.Reach.{IsInReach};
-ghost use Rattle.lux_core.specs.Commands.{coordinate, coordinate_at, file_name, format_of, is_digit, lamp_set, chosen_set, is_number, is_plain, names_a_file, names_file, names_lm63, summary_of, summary_asked, asked_of, number_after, point_at, question_of, sight_between};
+ghost use Rattle.lux_core.specs.Commands.{asked_of, check_of, chosen_set, claim_name, coordinate, file_name, format_of, is_digit, is_number, is_plain, is_trial, light_of, names_a_file, names_file, names_lm63, number_after, number_within, point_at, question_of, sight_of, summary_of, trial_of};
 ghost use Rattle.lux_core.specs.Questions.{IsFormat, IsInRange, IsLampSet};
 
 use room_layout::Point;
@@ -17,11 +17,36 @@ const LAST_SET: u32 = 20;
 /// The greatest coordinate in mm.
 const GREATEST_COORDINATE: u32 = 100_000;
 
+/// The greatest number of a made room.
+const LAST_ROOM: u32 = 40;
+
+/// In which form a report is written.
+#[derive(Clone, Copy, Debug, PartialEq, Eq)]
+pub enum Spelling {
+    /// As lines: the task points, the average, the uniformity, and each limit with its verdict.
+    Lines,
+    /// As comma-separated values: a record for each task point.
+    Records,
+    /// As the summary of the room that this number makes: its counts, the average and the uniformity.
+    Summary(u32),
+}
+
+/// What is asked of the light of a room.
+#[derive(Clone, Copy, Debug, PartialEq, Eq)]
+pub enum LightQuestion {
+    /// The report of its task points, in this form.
+    Report(Spelling),
+    /// A claim on the light of its patches, which another party can check.
+    Claim,
+}
+
 /// What is asked of a room.
 #[derive(Clone, Copy, Debug, PartialEq, Eq)]
 pub enum RoomQuestion {
-    /// The report of its task points.
-    Report,
+    /// Something of its light.
+    Light(LightQuestion),
+    /// Whether it shows the claim that a second file holds.
+    Check,
     /// Whether two points, in half mm, see each other.
     Sight(Point, Point),
 }
@@ -37,11 +62,20 @@ pub enum Format {
 
 /// What is asked of a file.
 #[derive(Clone, Copy, Debug, PartialEq, Eq)]
-pub enum Question {
+pub enum FileQuestion {
     /// Something of the room whose layout it is.
     Room(RoomQuestion),
     /// The summary of its photometry.
     Photometry(Format),
+}
+
+/// What is asked.
+#[derive(Clone, Copy, Debug, PartialEq, Eq)]
+pub enum Question {
+    /// Something of the file that the second word names.
+    File(FileQuestion),
+    /// The summary of the room that this number, from 1 to 40, makes.
+    Trial(u32),
 }
 
 /// Whether no byte is a control character.
@@ -94,17 +128,18 @@ fn number_of(bytes: &[u8]) -> u32
     number
 }
 
-/// The coordinate in mm that a word says.
-fn coordinate_of(word: &str) -> Option<u32>
-    ensures coordinate { result ≡ coordinate word.now }
-    ensures within { IfSome result (λ c. c ≤ 100000) }
+/// The number that a word says, where it lies from the least to the most.
+fn number_within(least: u32, most: u32, word: &str) -> Option<u32>
+    requires { most < 1000000 }
+    ensures number { result ≡ number_within least most word.now }
+    ensures within { IfSome result (λ n. (least ≤ n) × (n ≤ most)) }
 {
     let bytes = word.as_bytes();
     if !is_number(bytes) {
         return None;
     }
     let number = number_of(bytes);
-    if GREATEST_COORDINATE < number {
+    if number < least || most < number {
         return None;
     }
     Some(number)
@@ -115,9 +150,9 @@ fn point_of(x: &str, y: &str, z: &str) -> Option<Point>
     ensures point { result ≡ point_at (coordinate x.now) (coordinate y.now) (coordinate z.now) }
     ensures within { IfSome result IsInReach }
 {
-    let x = coordinate_of(x)?;
-    let y = coordinate_of(y)?;
-    let z = coordinate_of(z)?;
+    let x = number_within(0, GREATEST_COORDINATE, x)?;
+    let y = number_within(0, GREATEST_COORDINATE, y)?;
+    let z = number_within(0, GREATEST_COORDINATE, z)?;
     Some(Point {
         x: (2 * x) as i32,
         y: (2 * y) as i32,
@@ -128,30 +163,12 @@ fn point_of(x: &str, y: &str, z: &str) -> Option<Point>
 /// What `sight ROOM X Y Z X Y Z` asks, where its numbers are coordinates.
 fn sight_of(words: &[String]) -> Option<Question>
     requires { length words.now ≡ 8 }
-    ensures asked { result ≡ sight_between
-        (point_at (coordinate_at (map string_bytes words.now) 2) (coordinate_at (map string_bytes words.now) 3) (coordinate_at (map string_bytes words.now) 4))
-        (point_at (coordinate_at (map string_bytes words.now) 5) (coordinate_at (map string_bytes words.now) 6) (coordinate_at (map string_bytes words.now) 7)) }
+    ensures asked { result ≡ sight_of (map string_bytes words.now) }
     ensures within { IfSome result IsInRange }
 {
     let from = point_of(words[2].as_str(), words[3].as_str(), words[4].as_str())?;
     let to = point_of(words[5].as_str(), words[6].as_str(), words[7].as_str())?;
-    Some(Question::Room(RoomQuestion::Sight(from, to)))
-}
-
-/// The lamp set that a word says: a number from 1 to 20.
-fn lamp_set_of(word: &str) -> Option<u32>
-    ensures set { result ≡ lamp_set word.now }
-    ensures within { IfSome result IsLampSet }
-{
-    let bytes = word.as_bytes();
-    if !is_number(bytes) {
-        return None;
-    }
-    let set = number_of(bytes);
-    if set < 1 || LAST_SET < set {
-        return None;
-    }
-    Some(set)
+    Some(Question::File(FileQuestion::Room(RoomQuestion::Sight(from, to))))
 }
 
 /// The last four bytes, and all of them where there are fewer.
@@ -190,7 +207,7 @@ fn chosen_set(words: &[String]) -> Option<u32>
         return Some(1);
     }
     if words.len() == 3 {
-        return lamp_set_of(words[2].as_str());
+        return number_within(1, LAST_SET, words[2].as_str());
     }
     None
 }
@@ -202,7 +219,7 @@ fn summary_of(words: &[String]) -> Option<Question>
     ensures within { IfSome result IsInRange }
 {
     let set = chosen_set(words)?;
-    Some(Question::Photometry(format_of(words[1].as_str(), set)))
+    Some(Question::File(FileQuestion::Photometry(format_of(words[1].as_str(), set))))
 }
 
 /// Whether the second word names a file.
@@ -213,31 +230,85 @@ fn names_a_file(words: &[String]) -> bool
     words.len() >= 2 && is_file_name(words[1].as_str())
 }
 
+/// What `report ROOM`, `grid ROOM` and `certify ROOM` ask of the room's light.
+fn light_of(words: &[String]) -> Option<Question>
+    requires { 2 ≤ length words.now }
+    ensures asked { result ≡ light_of (map string_bytes words.now) }
+    ensures within { IfSome result IsInRange }
+{
+    let command = words[0].as_str();
+    let asked = if command == "report" {
+        LightQuestion::Report(Spelling::Lines)
+    } else if command == "grid" {
+        LightQuestion::Report(Spelling::Records)
+    } else if command == "certify" {
+        LightQuestion::Claim
+    } else {
+        return None;
+    };
+    Some(Question::File(FileQuestion::Room(RoomQuestion::Light(asked))))
+}
+
+/// What `check ROOM CLAIM` asks.
+fn check_of(words: &[String]) -> Option<Question>
+    requires { 3 ≤ length words.now }
+    ensures asked { result ≡ check_of (map string_bytes words.now) }
+    ensures within { IfSome result IsInRange }
+{
+    if words[0].as_str() == "check" && is_file_name(words[2].as_str()) {
+        return Some(Question::File(FileQuestion::Room(RoomQuestion::Check)));
+    }
+    None
+}
+
 /// What is asked of the file that the second word names.
 fn asked_of(words: &[String]) -> Option<Question>
     requires { 2 ≤ length words.now }
     ensures asked { result ≡ asked_of (map string_bytes words.now) }
     ensures within { IfSome result IsInRange }
 {
-    let command = words[0].as_str();
-    if words.len() == 2 && command == "report" {
-        return Some(Question::Room(RoomQuestion::Report));
-    }
-    if words.len() == 8 && command == "sight" {
-        return sight_of(words);
-    }
-    if command == "read" {
+    if words[0].as_str() == "read" {
         return summary_of(words);
+    }
+    if words.len() == 2 {
+        return light_of(words);
+    }
+    if words.len() == 3 {
+        return check_of(words);
+    }
+    if words.len() == 8 && words[0].as_str() == "sight" {
+        return sight_of(words);
     }
     None
 }
 
-/// What the words ask of the file that the second of them names; nothing where they are no command.
+/// Whether the words are `trial` and one more.
+fn is_trial(words: &[String]) -> bool
+    ensures trial { result ≡ is_trial (map string_bytes words.now) }
+    ensures two { IsTrue result → length words.now ≡ 2 }
+{
+    words.len() == 2 && words[0].as_str() == "trial"
+}
+
+/// What `trial N` asks.
+fn trial_of(words: &[String]) -> Option<Question>
+    requires { 2 ≤ length words.now }
+    ensures asked { result ≡ trial_of (map string_bytes words.now) }
+    ensures within { IfSome result IsInRange }
+{
+    let number = number_within(1, LAST_ROOM, words[1].as_str())?;
+    Some(Question::Trial(number))
+}
+
+/// What the words ask; nothing where they are no command.
 pub fn question_of(words: &[String]) -> Option<Question>
     ensures asked { result ≡ question_of (map string_bytes words.now) }
     ensures within { IfSome result IsInRange }
     ensures named { IfSome result (λ _. 2 ≤ length words.now) }
 {
+    if is_trial(words) {
+        return trial_of(words);
+    }
     if !names_a_file(words) {
         return None;
     }
@@ -250,6 +321,16 @@ pub fn file_name(words: &[String]) -> &str
     ensures { result.now ≡ file_name (map string_bytes words.now) }
 {
     words[1].as_str()
+}
+
+/// The name of the claim's file; of fewer words it is empty.
+pub fn claim_name(words: &[String]) -> &str
+    ensures { result.now ≡ claim_name (map string_bytes words.now) }
+{
+    match words.get(2) {
+        Some(name) => name.as_str(),
+        None => "",
+    }
 }
 
 /// The line that is written where the words are no command.

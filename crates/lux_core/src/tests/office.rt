@@ -5,7 +5,7 @@ use crate::Status;
 use std::test::Fail;
 
 /// An office of 7.2 by 5.4 m with eight desks, two cupboards and nine luminaires of four points each: 726 patches.
-const OFFICE_ROOM: &str = "\
+pub const OFFICE_ROOM: &str = "\
 version = 1\n[room]\nsize = [7200, 5400, 2800]\nreflect = [200, 700, 500, 500, 500, 500]\npatch = 600\n[[box]]\n\
 lo = [500, 1200, 0]\nhi = [2100, 2000, 720]\nreflect = 300\n[[box]]\nlo = [500, 3400, 0]\nhi = [2100, 4200, 720]\n\
 reflect = 300\n[[box]]\nlo = [2100, 1200, 0]\nhi = [3700, 2000, 720]\nreflect = 300\n[[box]]\nlo = [2100, 3400, 0]\n\

@@ -34,11 +34,6 @@ fn a_refused_room_has_one_line(rt: HostRuntime) -> Result<(), Fail> {
             "version = 1\n[room]\nsize = [10000, 1000, 1000]\nreflect = [700, 700, 700, 700, 700, 700]\npatch = 10000\n[task]\nfrom = [0, 0]\nto = [10000, 1000]\nheight = 0\npoints = [1, 1]\n",
             "refused rows 1 RowSum 0 1.140\n",
         ),
-        // the layout knows limits, and they aren't served yet
-        (
-            "version = 1\n[room]\nsize = [6000, 6000, 3000]\n[task]\nfrom = [0, 0]\nto = [6000, 6000]\nheight = 0\npoints = [1, 1]\n[limits]\naverage_millilux = 1\n",
-            "refused room 9 NotBuilt\n",
-        ),
     ] {
         run(&rt, alloc, &words, room, &CALM, Status::Refused, text)?;
     }
@@ -58,7 +53,17 @@ fn a_refused_room_has_one_line(rt: HostRuntime) -> Result<(), Fail> {
 fn other_words_are_no_command(rt: HostRuntime) -> Result<(), Fail> {
     let alloc = rt.alloc();
     run(&rt, alloc, &[], ROOM, &CALM, Status::Usage, USAGE)?;
-    for word in ["report", "sight", "--help", "--version", ""] {
+    for word in [
+        "report",
+        "sight",
+        "grid",
+        "certify",
+        "check",
+        "trial",
+        "--help",
+        "--version",
+        "",
+    ] {
         run(&rt, alloc, &[word], ROOM, &CALM, Status::Usage, USAGE)?;
     }
     for name in ["", "a\u{7f}b", "a\nb"] {
@@ -75,7 +80,7 @@ fn other_words_are_no_command(rt: HostRuntime) -> Result<(), Fail> {
     run(
         &rt,
         alloc,
-        &["grid", "room.toml"],
+        &["check", "room.toml"],
         ROOM,
         &CALM,
         Status::Usage,

@@ -1,0 +1,123 @@
+-- An answer's status is never that of a text that couldn't be written.
+use Rattle.std.proofs.Common.{ℕ, ◌≡◌, ◌≢◌, ◌⊎◌, inl, inr, List, ◌∙◌, sym}
+use Rattle.std.specs.Prelude.{Option, Some, None}
+use Rattle.limit_verdict.specs.Verdicts.{verdicts_of, overall}
+use Rattle.limit_verdict.specs.declared.verdict.Verdict.{Verdict}
+use Rattle.limit_verdict.specs.declared.verdict.Verdict.TheVariants.{Met, Missed, Undecided}
+use Rattle.photo_table.specs.Table.{Table}
+use Rattle.report_form.specs.Judged.{ends_of}
+use Rattle.room_layout.specs.declared.room.Room.{Room}
+use Rattle.lux_core.specs.Answers.{IsAnswerTo, IsBytesAnswer, IsFileAnswer}
+use Rattle.lux_core.specs.Claims.{IsCheckAnswer, IsClaimAnswer, IsSaidOfClaim}
+use Rattle.lux_core.specs.LampFiles.{HasUnreadFile, tables_of}
+use Rattle.lux_core.specs.LightAnswers.{IsAsked, IsLightAnswer, IsNotServed}
+use Rattle.lux_core.specs.Commands.{file_name, claim_name}
+use Rattle.lux_core.specs.Photometry.{IsPhotometryAnswer}
+use Rattle.lux_core.specs.RoomAnswers.{IsRoomAnswer, IsSaidOf}
+use Rattle.lux_core.specs.Runs.{Run}
+use Rattle.lux_core.specs.Spellings.{IsReport, verdict_status}
+use Rattle.lux_core.specs.Trials.{IsTrialAnswer}
+use Rattle.lux_core.specs.Untaken.{IsUntaken}
+use Rattle.lux_core.specs.declared.status.Status.{Status}
+use Rattle.lux_core.specs.declared.status.Status.TheVariants as status
+use Rattle.lux_core.specs.declared.words.FileQuestion.{FileQuestion}
+use Rattle.lux_core.specs.declared.words.FileQuestion.TheVariants as file
+use Rattle.lux_core.specs.declared.words.LightQuestion.{LightQuestion}
+use Rattle.lux_core.specs.declared.words.LightQuestion.TheVariants.{Report, Claim}
+use Rattle.lux_core.specs.declared.words.Question.{Question}
+use Rattle.lux_core.specs.declared.words.Question.TheVariants as question
+use Rattle.lux_core.specs.declared.words.RoomQuestion.{RoomQuestion}
+use Rattle.lux_core.specs.declared.words.RoomQuestion.TheVariants as asks
+use Rattle.lux_core.specs.declared.words.Spelling.TheVariants.{Lines, Records, Summary}
+
+-- it isn't that of a write fault
+abbrev IsWritten : Status → Type 0
+IsWritten given = given ≢ status.WriteFault
+
+by_done : (given : Status) → given ≡ status.Done → IsWritten given
+by_done given e = λ f. cc
+
+by_refused : (given : Status) → given ≡ status.Refused → IsWritten given
+by_refused given e = λ f. cc
+
+by_read_fault : (given : Status) → given ≡ status.ReadFault → IsWritten given
+by_read_fault given e = λ f. cc
+
+by_not_shown : (given : Status) → given ≡ status.NotShown → IsWritten given
+by_not_shown given e = λ f. cc
+
+verdict_written : (v : Verdict) → IsWritten (verdict_status v)
+verdict_written Met = λ f. cc
+verdict_written Missed = λ f. cc
+verdict_written Undecided = λ f. cc
+
+untaken : (r : Run) (name : List ℕ) (given : Status) (text : List ℕ) → IsUntaken r name given text → IsWritten given
+untaken r name given text (inl a) = by_refused given a.status_is
+untaken r name given text (inr (inl l)) = by_refused given l.status_is
+untaken r name given text (inr (inr f)) = by_read_fault given f.status_is
+
+asked : (question : LightQuestion) (tables : List Table) (room : Room) (given : Status) (text : List ℕ) → IsAsked question tables room given text → IsWritten given
+asked (Report Lines) tables room given text (served, r) =
+    let e = ends_of r.report in
+    λ f. verdict_written (overall (verdicts_of room.limits e.average_lo e.average_hi e.uniformity)) (sym r.status_is ∙ f)
+asked (Report Records) tables room given text (served, r) = by_done given r.status_is
+asked (Report (Summary n)) tables room given text (served, r) = by_done given r.status_is
+asked Claim tables room given text (served, c) = by_done given c.status_is
+
+not_served : (tables : List Table) (room : Room) (given : Status) (text : List ℕ) → IsNotServed tables room given text → IsWritten given
+not_served tables room given text (inl n) = by_refused given n.status_is
+not_served tables room given text (inr h) = by_refused given h.status_is
+
+unread : (r : Run) (room : Room) (given : Status) (text : List ℕ) → HasUnreadFile r room.files given text → IsWritten given
+unread r room given text h = elim h.unread [
+  | inl u ↦ untaken r _ given text u
+  | inr f ↦ by_refused given f.refusal.status_is
+]
+
+light : (question : LightQuestion) (r : Run) (before : Option (List ℕ)) (room : Room) (given : Status) (text : List ℕ) → IsLightAnswer question r before room given text → IsWritten given
+light question r before room given text (inl u) = unread r room given text u
+light question r before room given text (inr o) = elim o.said [
+  | inl a ↦ asked question (tables_of o.reads) room given text a
+  | inr n ↦ not_served (tables_of o.reads) room given text n
+]
+
+said_of_claim : (tables : List Table) (room : Room) (bytes : List ℕ) (given : Status) (text : List ℕ) → IsSaidOfClaim tables room bytes given text → IsWritten given
+said_of_claim tables room bytes given text (inl s) = by_done given s.status_is
+said_of_claim tables room bytes given text (inr (inl u)) = by_not_shown given u.status_is
+said_of_claim tables room bytes given text (inr (inr f)) = by_refused given f.status_is
+
+claim : (r : Run) (tables : List Table) (room : Room) (name : List ℕ) (given : Status) (text : List ℕ) → IsClaimAnswer r tables room name given text → IsWritten given
+claim r tables room name given text (inl u) = untaken r name given text u
+claim r tables room name given text (inr o) = said_of_claim tables room o.bytes given text o.said
+
+check : (r : Run) (before : Option (List ℕ)) (room : Room) (name : List ℕ) (given : Status) (text : List ℕ) → IsCheckAnswer r before room name given text → IsWritten given
+check r before room name given text (inl u) = unread r room given text u
+check r before room name given text (inr (inl o)) = not_served (tables_of o.reads) room given text o.said
+check r before room name given text (inr (inr o)) = claim r (tables_of o.reads) room name given text o.said
+
+said : (asked : RoomQuestion) (r : Run) (bytes name : List ℕ) (room : Room) (given : Status) (text : List ℕ) → IsSaidOf asked r bytes name room given text → IsWritten given
+said (asks.Light asked) r bytes name room given text a = light asked r (Some bytes) room given text a
+said asks.Check r bytes name room given text a = check r (Some bytes) room name given text a
+said (asks.Sight p q) r bytes name room given text (ended, inl a) = by_done given a.status_is
+said (asks.Sight p q) r bytes name room given text (ended, inr a) = by_done given a.status_is
+
+room : (asked : RoomQuestion) (r : Run) (bytes name : List ℕ) (given : Status) (text : List ℕ) → IsRoomAnswer asked r bytes name given text → IsWritten given
+room asked r bytes name given text (inl f) = by_refused given f.status_is
+room asked r bytes name given text (inr o) = said asked r bytes name o.room given text o.said
+
+bytes_answer : (asked : FileQuestion) (r : Run) (name claim bytes : List ℕ) (given : Status) (text : List ℕ) → IsBytesAnswer asked r name claim bytes given text → IsWritten given
+bytes_answer (file.Room asked) r name claim bytes given text a = room asked r bytes claim given text a
+bytes_answer (file.Photometry format) r name claim bytes given text (ended, inl a) = by_done given a.status_is
+bytes_answer (file.Photometry format) r name claim bytes given text (ended, inr a) = by_refused given a.status_is
+
+of_file : (asked : FileQuestion) (r : Run) (name claim : List ℕ) (given : Status) (text : List ℕ) → IsFileAnswer asked r name claim given text → IsWritten given
+of_file asked r name claim given text (inl u) = untaken r name given text u
+of_file asked r name claim given text (inr o) = bytes_answer asked r name claim o.bytes given text o.said
+
+trial : (n : ℕ) (r : Run) (given : Status) (text : List ℕ) → IsTrialAnswer n r given text → IsWritten given
+trial n r given text (inl f) = by_refused given f.status_is
+trial n r given text (inr o) = light (Report (Summary n)) r None o.room given text o.said
+
+pub answer_written : (asked : Question) (words : List (List ℕ)) (r : Run) (given : Status) (text : List ℕ) → IsAnswerTo asked words r given text → given ≢ status.WriteFault
+answer_written (question.File asked) words r given text a = of_file asked r (file_name words) (claim_name words) given text a
+answer_written (question.Trial n) words r given text a = trial n r given text a
