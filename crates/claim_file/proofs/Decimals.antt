@@ -1,5 +1,6 @@
 -- A number in decimal digits is read as that number, and no other field is.
 use Rattle.std.proofs.Common.{ℕ, zero, suc, ◌+◌, ◌/◌, ◌-◌, ◌*◌, ◌%◌, ◌^◌, ◌<◌, ◌≤◌, ◌≡◌, ◌∙◌, refl, sym, ap, append_assoc, arith, inl, inr, length, Bool, None, ◌&&◌, List, [], ◌∷◌, ◌++◌, true, false, Some, ◌==◌}
+use Rattle.fx_base.proofs.Truth.{both_true}
 use Rattle.std.specs.Prelude.{fold, if◌then◌else◌}
 use Rattle.std.proofs.Math.Dec.{leb}
 use Rattle.std.specs.Char.{is_ascii_digit}
@@ -66,12 +67,8 @@ number-decimal n l = is_number n (decimal n) (writes n l)
 
 -- ---- and no other field is
 
-both : (a b : Bool) → (a && b) ≡ true → (a ≡ true) × (b ≡ true)
-both true b h = (refl, h)
-both false b h = cc h
-
 range : (b : ℕ) → is_ascii_digit b ≡ true → (48 ≤ b) × (b ≤ 57)
-range b e = let h = both (leb 48 b) (leb b 57) e in (leb-true 48 b h.0, leb-true b 57 h.1)
+range b e = let h = both_true (leb 48 b) (leb b 57) e in (leb-true 48 b h.0, leb-true b 57 h.1)
 
 one_digit : (n : ℕ) → n < 10 → decimal n ≡ (48 + n) ∷ []
 one_digit n l = decimal_by_steps_wide (λ m ds. m < 10 → ds ≡ (48 + m) ∷ []) (λ m q p. refl) (λ m ds ten w p. absurd (omega arith)) n (omega arith) l
@@ -91,7 +88,7 @@ follows : (bytes : List ℕ) (n : ℕ) → 0 < n → list_all is_ascii_digit byt
     → decimal n ++ bytes ≡ decimal (fold with_digit n bytes)
 follows [] n p all small = append-nil (decimal n)
 follows (b ∷ bytes) n p all small =
-    let each = both (is_ascii_digit b) (list_all is_ascii_digit bytes) all in
+    let each = both_true (is_ascii_digit b) (list_all is_ascii_digit bytes) all in
     let r = range b each.0 in
     let less : with_digit n b ≤ fold with_digit (with_digit n b) bytes = no_less bytes (with_digit n b) in
     let step : decimal (with_digit n b) ≡ decimal n ++ (b ∷ []) = next_digit n b p r.0 r.1 (omega arith) in
@@ -105,7 +102,7 @@ zero_field b bytes v e none is =
 other_field : (b : ℕ) (bytes : List ℕ) (v : ℕ) → (b == 48) ≡ false → list_all is_ascii_digit (b ∷ bytes) ≡ true → fold with_digit 0 (b ∷ bytes) ≡ v
     → v < 10 ^ 64 → b ∷ bytes ≡ decimal v
 other_field b bytes v e all is small =
-    let each = both (is_ascii_digit b) (list_all is_ascii_digit bytes) all in
+    let each = both_true (is_ascii_digit b) (list_all is_ascii_digit bytes) all in
     let r = range b each.0 in
     let not : b ≡ 48 → ⊥ = eqb-false b 48 e in
     let some : 0 < with_digit 0 b = omega arith in

@@ -1,5 +1,6 @@
 -- A text is read as a claim exactly where its records fit one.
 use Rattle.std.proofs.Common.{ℕ, ◌+◌, ◌^◌, ◌<◌, ◌≤◌, ◌≡◌, ◌∙◌, refl, sym, ap, subst, arith, List, [], ◌∷◌, length, Bool, true, false, Option, Some, None, ◌==◌, ◌&&◌, eq-eqb}
+use Rattle.fx_base.proofs.Truth.{both_true}
 use Rattle.std.specs.Prelude.{ℤ, pos, negsuc, ◌≤ℤ◌, Result, Ok, Err, nat_lt}
 use Rattle.std.proofs.lemmas.Bool.{eqb-true, leb-true, le-leb, lt-ltb, ltb-true}
 use Rattle.std.proofs.lemmas.Int.{ints}
@@ -29,10 +30,6 @@ gave (Err e) f y h = cc h
 held : {A E : Type 0} (b : Bool) (e : E) (r : Result A E) (y : A) → (demand b e >>= λ u. r) ≡ Ok y → (b ≡ true) × (r ≡ Ok y)
 held true e r y h = (refl, h)
 held false e r y h = cc h
-
-both : (a b : Bool) → (a && b) ≡ true → (a ≡ true) × (b ≡ true)
-both true b h = (refl, h)
-both false b h = cc h
 
 abbrev read : Entry → Result Entry ClaimFault
 read x = Ok x
@@ -82,7 +79,7 @@ says n (Some p) None high e h = cc h
 says n (Some p) (Some l) None e h = cc h
 says n (Some p) (Some l) (Some u) e h =
     let a = held (is_end l && is_end u) (fault.Record (n + 1)) (demand (p == n) (fault.Order (n + 1)) >>= λ next. Ok (record { lower = tick l; upper = tick u })) e h in
-    let ends = both (is_end l) (is_end u) a.0 in
+    let ends = both_true (is_end l) (is_end u) a.0 in
     let b = held (p == n) (fault.Order (n + 1)) (Ok (record { lower = tick l; upper = tick u })) e a.1 in
     says_these n p l u e (eqb-true p n b.0) ends.0 ends.1 (same_entry (record { lower = tick l; upper = tick u }) e b.1)
 
