@@ -6,16 +6,16 @@ use Rattle.std.proofs.Math.Nat.{div-mul-le_self, mul-le-mul_left, le_of_mul-le-m
 use Rattle.std.proofs.lemmas.Bool.{cases_lt}
 use Rattle.std.proofs.lemmas.Grind.{div_ceil_times}
 use Rattle.fx_base.specs.Fraction.{◌≤ᶠ◌, ◌<ᶠ◌, ◌+ᶠ◌, ratio, whole, half_power}
-use Rattle.fx_base.specs.Interval.{Meets, LiesIn, outward}
+use Rattle.fx_base.specs.Interval.{Meets, LiesIn, InOrder, outward}
 use Rattle.fx_base.specs.Units.{ticks, natural}
 use Rattle.fx_base.proofs.Order.{le_lt_trans_f, sub_back_f}
 use Rattle.fx_base.proofs.Rounding.{natural-mono}
 use Rattle.interval_system.specs.Radiosity.{Light, IsLightOf, values}
-use Rattle.interval_system.specs.Values.{average, uniformity}
+use Rattle.interval_system.specs.Values.{Grid, open_count, average, uniformity}
 use Rattle.room_layout.specs.declared.room.Room.{Room}
 use Rattle.photo_table.specs.Table.{Table}
 use Rattle.scene_system.specs.Scene.{task_point_of, radiosity, loose_radiosity}
-use Rattle.grid_report.specs.Headline.{least_end, IsInOrder, Fits, MeetsValues, IsNarrow, IsRight}
+use Rattle.grid_report.specs.Headline.{least_end, IsInOrder, AreInOrder, Fits, HaveValuesInOrder, MeetsValues, IsNarrow, IsRight}
 use Rattle.grid_report.specs.RoomValues.{ForExactValues, ForLooseValues}
 use Rattle.report_form.specs.Spelled.{said}
 use Rattle.report_form.specs.declared.report.Printed.{Printed}
@@ -25,7 +25,9 @@ use Rattle.grid_report.specs.Reports.{in_cents, printed_ratio, printed_value, Is
 use Rattle.grid_report.specs.Sums.{lower_end, upper_end, open_total, average_low, average_high, IsLeast, IsUniformity, IsValue}
 use Rattle.grid_report.specs.declared.value.PointValue.{PointValue}
 use Rattle.grid_report.specs.declared.value.Ratio.{Ratio}
+use Rattle.grid_report.proofs.GridOrder.{average_order, uniformity_order}
 use Rattle.grid_report.proofs.Means.{AreCoveredBy, no_point}
+use Rattle.grid_report.proofs.TickMeans.{count_is}
 use Rattle.grid_report.proofs.Printing.{printed_meets, printed_near}
 use Rattle.grid_report.proofs.Right.{averages_order, AreMeeting, AreNear, average_meets, average_near_low, average_near_high, least_within_average, down_uniformity, up_uniformity, positive_average, down_uniformity_near, up_uniformity_near}
 use Rattle.grid_report.proofs.Reported.{cents_order}
@@ -353,5 +355,27 @@ narrow tables room vs r are some of = record {
       (least_high_printed vs s.b high s.least_high h) (div-mul-le_self (average_low vs * 100) 68719476736) p)));
 }
 
+-- ---- the values are in order
+
+grid_order : (x : Grid) → 0 < open_count x.covered x.points → ((g : ℕ) → g < x.points → InOrder (x.value g)) → AreInOrder x
+grid_order x some each = record {
+  some_open = some;
+  each_point = each;
+  the_average = average_order x some (λ g l o. each g l);
+  the_uniformity = uniformity_order x some (λ g l o. each g l);
+}
+
+meeting_order : (x : Grid) (vs : List PointValue) → 0 < open_total vs → AreMeeting x vs → AreInOrder x
+meeting_order x vs some m = grid_order x (rw (m.count, count_is vs x.covered m.covered) some) (λ g l. m.order g (subst (λ z. g < z) m.count l))
+
+near_order : (y : Grid) (vs : List PointValue) → 0 < open_total vs → AreNear 2048 y vs → AreInOrder y
+near_order y vs some m = grid_order y (rw (m.count, count_is vs y.covered m.covered) some) (λ g l. m.order g (subst (λ z. g < z) m.count l))
+
+in_order : (tables : List Table) (room : Room) (vs : List PointValue) → ArePoints tables room vs → 0 < open_total vs → HaveValuesInOrder tables room
+in_order tables room vs are some = record {
+  exact = λ n deep light solves. meeting_order (values (radiosity n tables room) light) vs some (meeting tables room vs n light deep solves are);
+  loose = λ n deep light solves. near_order (values (loose_radiosity n tables room) light) vs some (near tables room vs n light deep solves are);
+}
+
 pub is_right : (tables : List Table) (room : Room) (vs : List PointValue) (r : Report) → ArePoints tables room vs → 0 < open_total vs → IsReportOf room.task.nx vs r → IsRight tables room r
-is_right tables room vs r are some of = record { fits = fits tables room vs r are some of; one_solution = record { exact = are.rows; loose = are.loose_rows }; meets = meets tables room vs r are some of; narrow = narrow tables room vs r are some of }
+is_right tables room vs r are some of = record { fits = fits tables room vs r are some of; one_solution = record { exact = are.rows; loose = are.loose_rows }; in_order = in_order tables room vs are some; meets = meets tables room vs r are some of; narrow = narrow tables room vs r are some of }

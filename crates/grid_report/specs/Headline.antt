@@ -1,9 +1,9 @@
 -- What a printed report promises of the room, with the exact tables of its files in their order.
 use Rattle.std.specs.Prelude.{ℕ, ◌≡◌, ◌*◌, ◌≤◌, ◌<◌, ◌↔◌, true, List, [], ◌∷◌, length, min, slice_index_or, Option, Some, None, IfSome, IfNone, IsNone}
 use Rattle.fx_base.specs.Fraction.{◌≤ᶠ◌, ◌<ᶠ◌, ◌+ᶠ◌, ratio, whole, half_power}
-use Rattle.fx_base.specs.Interval.{Meets, LiesIn, outward}
+use Rattle.fx_base.specs.Interval.{Meets, LiesIn, InOrder, outward}
 use Rattle.interval_system.specs.Radiosity.{AreRowsBelowOne}
-use Rattle.interval_system.specs.Values.{average, uniformity}
+use Rattle.interval_system.specs.Values.{Grid, open_count, average, uniformity}
 use Rattle.room_layout.specs.declared.room.Room.{Room}
 use Rattle.photo_table.specs.Table.{Table}
 use Rattle.scene_system.specs.Scene.{task_point_of, radiosity, loose_radiosity}
@@ -33,6 +33,19 @@ pub record Fits (room : Room) (r : Report) : Type 0 where
 pub record HaveOneSolution (tables : List Table) (room : Room) : Type 0 where
   pub exact : (n : ℕ) → 2 ≤ n → AreRowsBelowOne (radiosity n tables room).patches
   pub loose : (n : ℕ) → 2 ≤ n → AreRowsBelowOne (loose_radiosity n tables room).patches
+
+-- ---- the values are intervals: no enclosure is empty, and some point counts
+
+pub record AreInOrder (x : Grid) : Type 0 where
+  pub some_open : 0 < open_count x.covered x.points
+  pub each_point : (g : ℕ) → g < x.points → InOrder (x.value g)
+  pub the_average : InOrder (average x)
+  pub the_uniformity : InOrder (uniformity x)
+
+-- the exact ones and the loose ones
+pub record HaveValuesInOrder (tables : List Table) (room : Room) : Type 0 where
+  pub exact : ForExactValues tables room AreInOrder
+  pub loose : ForLooseValues tables room AreInOrder
 
 -- ---- the printed intervals meet the exact values
 
@@ -69,5 +82,6 @@ pub record IsNarrow (tables : List Table) (room : Room) (r : Report) : Type 0 wh
 pub record IsRight (tables : List Table) (room : Room) (r : Report) : Type 0 where
   pub fits : Fits room r
   pub one_solution : HaveOneSolution tables room
+  pub in_order : HaveValuesInOrder tables room
   pub meets : MeetsValues tables room r
   pub narrow : IsNarrow tables room r
