@@ -1,0 +1,15 @@
+-- Why the halving ends: a part has fewer rows than the whole.
+use Prim.Native.Nat.{◌+◌, ◌-◌, ◌*◌}
+use Rattle.fork_rows.proofs.fill.+halves.Given as goal
+
+abbrev pub decreases-fill_from : goal.decreases-fill_from
+decreases-fill_from g l = 4 * l.count
+
+abbrev pub decreases-both_halves : goal.decreases-both_halves
+decreases-both_halves g l = 4 * (l.low + l.high) - 1
+
+abbrev pub decreases-both_halves-front : goal.decreases-both_halves-front
+decreases-both_halves-front g l = 4 * l.low + 1
+
+abbrev pub decreases-both_halves-back : goal.decreases-both_halves-back
+decreases-both_halves-back g l = 4 * l.high + 1
