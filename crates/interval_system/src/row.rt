@@ -37,6 +37,14 @@ impl Row {
         Ok(Row { weights })
     }
 
+    /// The row of these weights, in order.
+    pub fn from_weights(weights: Vec<Weight>) -> Row
+        requires { IsRow weights.items }
+        ensures { result ≡ weights.items }
+    {
+        Row { weights }
+    }
+
     /// How many weights there are.
     pub fn len(&self) -> usize
         ensures len { result ≡ length self.now }

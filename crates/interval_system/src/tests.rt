@@ -28,6 +28,15 @@ fn a_row_holds_what_was_put_in(rt: HostRuntime) -> Result<(), Fail> {
 }
 
 #[test]
+fn a_row_is_made_of_its_weights(rt: HostRuntime) -> Result<(), Fail> {
+    let row = Row::from_weights(vec![in rt.alloc(); QUARTER, WHOLE]?);
+    assert_eq!(rt; row.len(), 2);
+    assert_eq!(rt; row.weight(0), QUARTER);
+    assert_eq!(rt; row.weight(1), WHOLE);
+    Ok(())
+}
+
+#[test]
 fn the_first_row_above_255_parts_in_256_is_heavy(rt: HostRuntime) -> Result<(), Fail> {
     let mut system = IntervalSystem::new(rt.alloc(), 3)?;
     assert_eq!(rt; system.heavy_row(), None);

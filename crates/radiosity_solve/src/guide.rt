@@ -3,13 +3,12 @@
 ghost use Rattle.std.specs.Prelude.{◌<◌, ◌≤◌, All, length};
 ghost use Rattle.fx_base.specs.Bound.{IsEnd};
 
-use crate::numbers::{
-    cut, excess, greatest_size, narrow_product, product, quotient, shorten, take_off, times,
-    turn_from,
-};
-use fx_base::{Tick, Weight};
-use interval_system::IntervalSystem;
+use crate::narrow::{NarrowRow, take};
+use crate::numbers::{cut, excess, greatest_size, product, quotient, take_off, times, turn_from};
+use fork_rows::Gate;
+use fx_base::Tick;
 use std::alloc::{AllocError, Global};
+use std::thread::Threads;
 
 /// The greatest end, 2^90 ticks.
 const TOP: i128 = 1_237_940_039_285_380_274_899_124_224;
@@ -19,14 +18,6 @@ const MOST_STEPS: u32 = 64;
 
 /// A step goes on while a change is more ticks than that off its aim.
 const SMALL_REST: u64 = 4_096;
-
-/// The weights of a row in parts of 2^-32.
-#[derive(Drop)]
-struct NarrowRow {
-    weights: Vec<u32>,
-    /// What the row has with 2^31 for each part of a list.
-    middle: u64,
-}
 
 /// The weights, and room for lists of as many numbers as there are patches.
 #[derive(Drop)]
@@ -40,37 +31,6 @@ pub(crate) struct Guide {
     /// The direction of the last step, and what the equations take of it.
     way: Vec<i64>,
     taken: Vec<i64>,
-}
-
-/// A weight in parts of 2^-32: the middle of its ends, so that it serves both sides.
-fn narrow_weight(weight: Weight) -> u32 {
-    (weight.lo.wrapping_add(weight.hi).wrapping_add(16) >> 5).min(u32::MAX as u64) as u32
-}
-
-/// Row i in 32 bits.
-fn narrow_row(alloc: Global, system: &IntervalSystem, i: usize) -> Result<NarrowRow, AllocError>
-    requires { i < length system.now.rows }
-{
-    let row = system.row(i);
-    let mut weights = Vec::with_capacity(alloc, row.len())?;
-    let mut middle = 0u64;
-    for j in 0..row.len() {
-        let weight = narrow_weight(row.weight(j));
-        middle = middle.wrapping_add((weight as u64) << 31);
-        weights.push(weight)?;
-    }
-    Ok(NarrowRow { weights, middle })
-}
-
-/// What the equations take of a list: each number less what the others send there.
-fn take(rows: &[NarrowRow], list: &[i64], parts: &mut [u32], into: &mut [i64]) {
-    let by = shorten(list, parts).min(32);
-    for i in 0..rows.len().min(list.len()).min(into.len()) {
-        let sent = narrow_product(rows[i].weights.as_slice(), parts)
-            .wrapping_sub(rows[i].middle)
-            .cast_signed();
-        into[i] = cut((list[i] as i128).wrapping_sub((sent >> (32 - by)) as i128));
-    }
 }
 
 /// What a change lacks of its aim. No light falls below 0.
@@ -117,14 +77,9 @@ fn go(near: &mut [Tick], share: i64, way: &[i64], by: u32)
 }
 
 impl Guide {
-    /// The guide of a system.
-    pub(crate) fn new(alloc: Global, system: &IntervalSystem) -> Result<Guide, AllocError> {
-        let size = system.size();
-        let mut rows = Vec::with_capacity(alloc, size)?;
-        for i in 0..size {
-            let row = narrow_row(alloc, system, i)?;
-            rows.push(row)?;
-        }
+    /// The guide of a system with these weights.
+    pub(crate) fn new(alloc: Global, rows: Vec<NarrowRow>) -> Result<Guide, AllocError> {
+        let size = rows.len();
         Ok(Guide {
             rows,
             parts: vec![in alloc; 0; size]?,
@@ -136,7 +91,14 @@ impl Guide {
     }
 
     /// Moves `near`, of which a turn has made `made`, so that a turn changes it by about `aim` ticks everywhere.
-    pub(crate) fn approach(&mut self, near: &mut [Tick], made: &[Tick], aim: i128)
+    pub(crate) fn approach<R: Threads + Sync, G: Gate + Sync>(
+        &mut self,
+        rt: &R,
+        near: &mut [Tick],
+        made: &[Tick],
+        aim: i128,
+        gate: &G,
+    )
         requires { All IsEnd near.old }
         ensures { All IsEnd near.new }
     {
@@ -145,10 +107,12 @@ impl Guide {
         let enough = (greatest_size(self.rest.as_slice()) >> 28).max(SMALL_REST >> by.min(63));
         turn_from(self.rest.as_slice(), 0, self.way.as_mut_slice());
         take(
+            rt,
             self.rows.as_slice(),
             self.way.as_slice(),
             self.parts.as_mut_slice(),
             self.taken.as_mut_slice(),
+            gate,
         );
         for _ in 0..MOST_STEPS {
             let size = product(self.taken.as_slice(), self.taken.as_slice());
@@ -159,10 +123,12 @@ impl Guide {
                 return;
             }
             take(
+                rt,
                 self.rows.as_slice(),
                 self.rest.as_slice(),
                 self.parts.as_mut_slice(),
                 self.taken_of_rest.as_mut_slice(),
+                gate,
             );
             let back = quotient(
                 product(self.taken_of_rest.as_slice(), self.taken.as_slice()),

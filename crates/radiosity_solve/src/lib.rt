@@ -7,6 +7,7 @@ mod claim;
 mod fault;
 mod guide;
 pub mod laws;
+mod narrow;
 mod numbers;
 mod side;
 mod trial;
@@ -16,6 +17,8 @@ pub use bounds::{Bounds, solve};
 pub use claim::holds;
 pub use fault::SolveFault;
 
+#[cfg(test)]
+mod fork_tests;
 #[cfg(test)]
 mod tests;
 #[cfg(test)]

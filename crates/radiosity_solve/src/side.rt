@@ -7,9 +7,11 @@ ghost use Rattle.radiosity_solve.specs.Shown.{IsShownLower, IsShownUpper};
 ghost use Rattle.radiosity_solve.specs.Turn.{IsLowerTurn, IsUpperTurn, IsChangedBy};
 
 use crate::turn::{greatest_change, lower_turn, upper_turn};
+use fork_rows::Gate;
 use fx_base::Tick;
 use interval_system::IntervalSystem;
 use std::mem::swap;
+use std::thread::Threads;
 
 const MOST_TURNS: u32 = 16_384;
 
@@ -17,7 +19,13 @@ const MOST_TURNS: u32 = 16_384;
 const SMALL_CHANGE: u128 = 16_384;
 
 /// A turn from below, and by how much it changed most.
-fn rise(system: &IntervalSystem, from: &[Tick], into: &mut [Tick]) -> u128
+fn rise<R: Threads + Sync, G: Gate + Sync>(
+    rt: &R,
+    system: &IntervalSystem,
+    from: &[Tick],
+    into: &mut [Tick],
+    gate: &G,
+) -> u128
     requires none_heavy { NoneHeavy system.now.rows }
     requires size { length from.now ≡ length system.now.rows }
     requires room { length into.old ≡ length system.now.rows }
@@ -27,12 +35,18 @@ fn rise(system: &IntervalSystem, from: &[Tick], into: &mut [Tick]) -> u128
     ensures change { IsChangedBy result from.now into.new }
 {
     let _size = system.size();
-    lower_turn(system, from, into);
+    lower_turn(rt, system, from, into, gate);
     greatest_change(from, into)
 }
 
 /// A turn from above, and by how much it changed most.
-fn fall(system: &IntervalSystem, from: &[Tick], into: &mut [Tick]) -> u128
+fn fall<R: Threads + Sync, G: Gate + Sync>(
+    rt: &R,
+    system: &IntervalSystem,
+    from: &[Tick],
+    into: &mut [Tick],
+    gate: &G,
+) -> u128
     requires none_heavy { NoneHeavy system.now.rows }
     requires size { length from.now ≡ length system.now.rows }
     requires room { length into.old ≡ length system.now.rows }
@@ -42,12 +56,18 @@ fn fall(system: &IntervalSystem, from: &[Tick], into: &mut [Tick]) -> u128
     ensures change { IsChangedBy result from.now into.new }
 {
     let _size = system.size();
-    upper_turn(system, from, into);
+    upper_turn(rt, system, from, into, gate);
     greatest_change(from, into)
 }
 
 /// The lower bounds. `spare` is room for the turns.
-pub(crate) fn lower_side(system: &IntervalSystem, zeros: Vec<Tick>, spare: Vec<Tick>) -> Vec<Tick>
+pub(crate) fn lower_side<R: Threads + Sync, G: Gate + Sync>(
+    rt: &R,
+    system: &IntervalSystem,
+    zeros: Vec<Tick>,
+    spare: Vec<Tick>,
+    gate: &G,
+) -> Vec<Tick>
     requires none_heavy { NoneHeavy system.now.rows }
     requires start { zeros.items ≡ replicate (length system.now.rows) (record { 0 = pos 0 }) }
     requires room { length spare.items ≡ length system.now.rows }
@@ -57,7 +77,7 @@ pub(crate) fn lower_side(system: &IntervalSystem, zeros: Vec<Tick>, spare: Vec<T
     let mut x = zeros;
     let mut y = spare;
     for turn in 0..MOST_TURNS {
-        let change = rise(system, x.as_slice(), y.as_mut_slice());
+        let change = rise(rt, system, x.as_slice(), y.as_mut_slice(), gate);
         swap(&mut x, &mut y);
         if change <= SMALL_CHANGE {
             return x;
@@ -67,7 +87,13 @@ pub(crate) fn lower_side(system: &IntervalSystem, zeros: Vec<Tick>, spare: Vec<T
 }
 
 /// The upper bounds. `spare` is room for the turns.
-pub(crate) fn upper_side(system: &IntervalSystem, tops: Vec<Tick>, spare: Vec<Tick>) -> Vec<Tick>
+pub(crate) fn upper_side<R: Threads + Sync, G: Gate + Sync>(
+    rt: &R,
+    system: &IntervalSystem,
+    tops: Vec<Tick>,
+    spare: Vec<Tick>,
+    gate: &G,
+) -> Vec<Tick>
     requires none_heavy { NoneHeavy system.now.rows }
     requires start { tops.items ≡ replicate (length system.now.rows) (record { 0 = pos (2 ^ 90) }) }
     requires room { length spare.items ≡ length system.now.rows }
@@ -77,7 +103,7 @@ pub(crate) fn upper_side(system: &IntervalSystem, tops: Vec<Tick>, spare: Vec<Ti
     let mut x = tops;
     let mut y = spare;
     for turn in 0..MOST_TURNS {
-        let change = fall(system, x.as_slice(), y.as_mut_slice());
+        let change = fall(rt, system, x.as_slice(), y.as_mut_slice(), gate);
         swap(&mut x, &mut y);
         if change <= SMALL_CHANGE {
             return x;

@@ -4,6 +4,7 @@ ghost use Rattle.fx_base.specs.Bound.{IsEnd};
 ghost use Rattle.interval_system.specs.System.{IsWeight};
 
 use crate::{Bounds, SolveFault, holds, solve};
+use fork_rows::OpenGate;
 use fx_base::{Memory, Span, Tick, Weight, tick_of};
 use interval_system::{Heavy, IntervalSystem};
 use std::alloc::Global;
@@ -50,7 +51,7 @@ fn encloses(bounds: &Bounds, i: usize, low: i128, high: i128) -> bool {
 #[test]
 fn no_row_has_no_bounds(rt: HostRuntime) -> Result<(), Fail> {
     let system = IntervalSystem::new(rt.alloc(), 0)?;
-    let bounds = solve(rt.alloc(), &system)?;
+    let bounds = solve(&rt, rt.alloc(), &system, &OpenGate)?;
     assert_eq!(rt; bounds.lower.len(), 0);
     assert_eq!(rt; bounds.upper.len(), 0);
     Ok(())
@@ -62,7 +63,7 @@ fn a_patch_that_sends_itself_a_half_has_twice_its_direct_light(
     rt: HostRuntime,
 ) -> Result<(), Fail> {
     let system = one_row(rt.alloc(), 34_359_738_368)?;
-    let bounds = solve(rt.alloc(), &system)?;
+    let bounds = solve(&rt, rt.alloc(), &system, &OpenGate)?;
     assert!(rt; encloses(&bounds, 0, 2 * ONE, 2 * ONE));
     Ok(())
 }
@@ -74,7 +75,7 @@ fn two_patches_light_each_other(rt: HostRuntime) -> Result<(), Fail> {
     system.set_weight(0, 1, exactly(34_359_738_368));
     system.set_weight(1, 0, exactly(17_179_869_184));
     system.set_direct(0, Span::whole(1));
-    let bounds = solve(rt.alloc(), &system)?;
+    let bounds = solve(&rt, rt.alloc(), &system, &OpenGate)?;
     assert!(rt; encloses(&bounds, 0, 8 * ONE / 7, 8 * ONE / 7 + 1));
     assert!(rt; encloses(&bounds, 1, 2 * ONE / 7, 2 * ONE / 7 + 1));
     Ok(())
@@ -84,7 +85,7 @@ fn two_patches_light_each_other(rt: HostRuntime) -> Result<(), Fail> {
 #[test]
 fn the_greatest_row_is_solved(rt: HostRuntime) -> Result<(), Fail> {
     let system = one_row(rt.alloc(), 68_451_041_280)?;
-    let bounds = solve(rt.alloc(), &system)?;
+    let bounds = solve(&rt, rt.alloc(), &system, &OpenGate)?;
     assert!(rt; encloses(&bounds, 0, 256 * ONE, 256 * ONE));
     Ok(())
 }
@@ -97,7 +98,7 @@ fn a_row_of_one_tick_more_is_refused(rt: HostRuntime) -> Result<(), Fail> {
         upper: 68_451_041_281,
     };
     assert_eq!(rt;
-        solve(rt.alloc(), &system).err(),
+        solve(&rt, rt.alloc(), &system, &OpenGate).err(),
         Some(SolveFault::RowSum(heavy))
     );
     Ok(())
@@ -137,7 +138,7 @@ fn fifty(alloc: Global) -> Result<IntervalSystem, Memory> {
 #[test]
 fn fifty_patches_have_the_solutions_of_an_exact_elimination(rt: HostRuntime) -> Result<(), Fail> {
     let system = fifty(rt.alloc())?;
-    let bounds = solve(rt.alloc(), &system)?;
+    let bounds = solve(&rt, rt.alloc(), &system, &OpenGate)?;
     assert!(rt; encloses(&bounds, 0, 84_382_489_518_876, 85_083_423_008_705));
     assert!(rt; encloses(&bounds, 17, 84_770_086_669_770, 85_471_003_351_787));
     assert!(rt; encloses(&bounds, 49, 87_708_820_527_775, 88_409_753_649_798));

@@ -8,8 +8,10 @@ ghost use Rattle.radiosity_solve.specs.Turn.{IsRiseBy};
 
 use crate::guide::Guide;
 use crate::turn::{lower_turn, upper_turn};
+use fork_rows::Gate;
 use fx_base::{Tick, end_ticks};
 use interval_system::IntervalSystem;
+use std::thread::Threads;
 
 /// The most turns on a side; the iteration from 0 or from 2^90 ticks serves where they don't do.
 const MOST_TRIALS: u32 = 16;
@@ -38,11 +40,13 @@ pub(crate) fn rises_little(low: &[Tick], high: &[Tick]) -> bool
 }
 
 /// Tries turns from `near`, led by the guide. Where this answers true, `made` holds lower bounds.
-pub(crate) fn lower_tried(
+pub(crate) fn lower_tried<R: Threads + Sync, G: Gate + Sync>(
+    rt: &R,
     system: &IntervalSystem,
     guide: &mut Guide,
     near: &mut [Tick],
     made: &mut [Tick],
+    gate: &G,
 ) -> bool
     requires none_heavy { NoneHeavy system.now.rows }
     requires size { length near.old ≡ length system.now.rows }
@@ -53,21 +57,23 @@ pub(crate) fn lower_tried(
 {
     let _size = system.size();
     for _ in 0..MOST_TRIALS {
-        lower_turn(system, near, made);
+        lower_turn(rt, system, near, made, gate);
         if rises_little(near, made) {
             return true;
         }
-        guide.approach(near, made, AIM);
+        guide.approach(rt, near, made, AIM, gate);
     }
     false
 }
 
 /// The same from above: where this answers true, `made` holds upper bounds.
-pub(crate) fn upper_tried(
+pub(crate) fn upper_tried<R: Threads + Sync, G: Gate + Sync>(
+    rt: &R,
     system: &IntervalSystem,
     guide: &mut Guide,
     near: &mut [Tick],
     made: &mut [Tick],
+    gate: &G,
 ) -> bool
     requires none_heavy { NoneHeavy system.now.rows }
     requires size { length near.old ≡ length system.now.rows }
@@ -78,11 +84,11 @@ pub(crate) fn upper_tried(
 {
     let _size = system.size();
     for _ in 0..MOST_TRIALS {
-        upper_turn(system, near, made);
+        upper_turn(rt, system, near, made, gate);
         if rises_little(made, near) {
             return true;
         }
-        guide.approach(near, made, -AIM);
+        guide.approach(rt, near, made, -AIM, gate);
     }
     false
 }

@@ -3,12 +3,15 @@ ghost use Rattle.std.specs.Prelude.{◌≡◌, ℕ, ◌+◌, ◌*◌, ◌<◌, �
 ghost use Rattle.interval_system.specs.System.{IsWeight};
 
 use crate::guide::Guide;
+use crate::narrow::narrow_rows;
 use crate::solve;
 use crate::trial::{lower_tried, rises_little, upper_tried};
+use fork_rows::OpenGate;
 use fx_base::{Memory, Span, Tick, Weight};
 use interval_system::IntervalSystem;
 use std::alloc::{AllocError, Global};
 use std::test::Fail;
+use std::thread::Threads;
 
 /// The whole ticks in 1/10,000 lux.
 const NEAR: i128 = 6_871_947;
@@ -50,22 +53,47 @@ fn system_of(alloc: Global, kind: Kind) -> Result<IntervalSystem, Memory> {
 }
 
 /// Whether the guide leads to lower bounds, and to upper bounds.
-fn found(alloc: Global, system: &IntervalSystem) -> Result<(bool, bool), AllocError> {
+fn found<R: Threads + Sync>(
+    rt: &R,
+    alloc: Global,
+    system: &IntervalSystem,
+) -> Result<(bool, bool), AllocError> {
     if let Some(_heavy) = system.heavy_row() {
         return Ok((false, false));
     }
     let size = system.size();
-    let mut guide = Guide::new(alloc, system)?;
+    let mut guide = Guide::new(alloc, narrow_rows(rt, alloc, system, &OpenGate)?)?;
     let mut near = vec![in alloc; Tick(0); size]?;
     let mut made = vec![in alloc; Tick(0); size]?;
-    let lower = lower_tried(system, &mut guide, near.as_mut_slice(), made.as_mut_slice());
-    let upper = upper_tried(system, &mut guide, near.as_mut_slice(), made.as_mut_slice());
+    let lower = lower_tried(
+        rt,
+        system,
+        &mut guide,
+        near.as_mut_slice(),
+        made.as_mut_slice(),
+        &OpenGate,
+    );
+    let upper = upper_tried(
+        rt,
+        system,
+        &mut guide,
+        near.as_mut_slice(),
+        made.as_mut_slice(),
+        &OpenGate,
+    );
     Ok((lower, upper))
 }
 
 /// Whether the bounds of patch i are near the solutions that are given in ticks, rounded down and up, on either side.
-fn encloses(alloc: Global, system: &IntervalSystem, i: usize, low: i128, high: i128) -> bool {
-    let Ok(bounds) = solve(alloc, system) else {
+fn encloses<R: Threads + Sync>(
+    rt: &R,
+    alloc: Global,
+    system: &IntervalSystem,
+    i: usize,
+    low: i128,
+    high: i128,
+) -> bool {
+    let Ok(bounds) = solve(rt, alloc, system, &OpenGate) else {
         return false;
     };
     match (bounds.lower.get(i), bounds.upper.get(i)) {
@@ -94,9 +122,10 @@ fn a_row_sum_of_a_half(rt: HostRuntime) -> Result<(), Fail> {
         dark: 0,
     };
     let system = system_of(rt.alloc(), kind)?;
-    assert_eq!(rt; found(rt.alloc(), &system)?, (true, true));
+    assert_eq!(rt; found(&rt, rt.alloc(), &system)?, (true, true));
     assert!(rt;
         encloses(
+            &rt,
             rt.alloc(),
             &system,
             23,
@@ -116,9 +145,10 @@ fn a_row_sum_of_nine_tenths(rt: HostRuntime) -> Result<(), Fail> {
         dark: 0,
     };
     let system = system_of(rt.alloc(), kind)?;
-    assert_eq!(rt; found(rt.alloc(), &system)?, (true, true));
+    assert_eq!(rt; found(&rt, rt.alloc(), &system)?, (true, true));
     assert!(rt;
         encloses(
+            &rt,
             rt.alloc(),
             &system,
             23,
@@ -138,9 +168,10 @@ fn a_row_sum_of_255_by_256(rt: HostRuntime) -> Result<(), Fail> {
         dark: 0,
     };
     let system = system_of(rt.alloc(), kind)?;
-    assert_eq!(rt; found(rt.alloc(), &system)?, (true, true));
+    assert_eq!(rt; found(&rt, rt.alloc(), &system)?, (true, true));
     assert!(rt;
         encloses(
+            &rt,
             rt.alloc(),
             &system,
             23,
@@ -160,9 +191,10 @@ fn half_of_the_patches_dark(rt: HostRuntime) -> Result<(), Fail> {
         dark: 12,
     };
     let system = system_of(rt.alloc(), kind)?;
-    assert_eq!(rt; found(rt.alloc(), &system)?, (true, true));
+    assert_eq!(rt; found(&rt, rt.alloc(), &system)?, (true, true));
     assert!(rt;
         encloses(
+            &rt,
             rt.alloc(),
             &system,
             23,
@@ -182,9 +214,10 @@ fn light_of_70_million_million_lux(rt: HostRuntime) -> Result<(), Fail> {
         dark: 0,
     };
     let system = system_of(rt.alloc(), kind)?;
-    assert_eq!(rt; found(rt.alloc(), &system)?, (true, true));
+    assert_eq!(rt; found(&rt, rt.alloc(), &system)?, (true, true));
     assert!(rt;
         encloses(
+            &rt,
             rt.alloc(),
             &system,
             23,
@@ -204,9 +237,10 @@ fn weights_that_are_a_per_cent_wide(rt: HostRuntime) -> Result<(), Fail> {
         dark: 0,
     };
     let system = system_of(rt.alloc(), kind)?;
-    assert_eq!(rt; found(rt.alloc(), &system)?, (true, true));
+    assert_eq!(rt; found(&rt, rt.alloc(), &system)?, (true, true));
     assert!(rt;
         encloses(
+            &rt,
             rt.alloc(),
             &system,
             23,
@@ -226,9 +260,10 @@ fn weights_a_fifth_wide_are_left_to_the_iteration(rt: HostRuntime) -> Result<(),
         dark: 0,
     };
     let system = system_of(rt.alloc(), kind)?;
-    assert_eq!(rt; found(rt.alloc(), &system)?, (false, false));
+    assert_eq!(rt; found(&rt, rt.alloc(), &system)?, (false, false));
     assert!(rt;
         encloses(
+            &rt,
             rt.alloc(),
             &system,
             23,

@@ -1,12 +1,17 @@
 //! One turn of the solver: the light that a list of ticks gives to each patch, all of the lower ends or all of the upper ends, each
-//! product rounded outward to a tick. A turn fills a list that is there already.
+//! product rounded outward to a tick. A turn fills a list that is there already, its rows side by side.
 ghost use Rattle.std.specs.Prelude.{◌≡◌, ℕ, ◌+◌, ◌*◌, ◌^◌, ◌<◌, ◌≤◌, length, All};
 ghost use Rattle.interval_system.specs.System.{low_direct, high_direct};
 ghost use Rattle.radiosity_solve.specs.Bounds.{IsEnd};
 ghost use Rattle.radiosity_solve.specs.Turn.{next_low, next_high, IsLowerTurn, IsUpperTurn, IsChangedBy};
 
+use fork_rows::{Gate, RowJob, fill_rows};
 use fx_base::{Tick, end_ticks, magnitude, tick_of};
 use interval_system::IntervalSystem;
+use std::thread::Threads;
+
+/// The most rows that are filled one after another: a thread costs more than the work on so few.
+pub(crate) const GRAIN: usize = 512;
 
 /// The lower end of the direct light of patch i, in ticks.
 #[tactic(auto, using(crate::proofs::Steps::light_small))]
@@ -52,28 +57,78 @@ pub(crate) fn upper_row(system: &IntervalSystem, from: &[Tick], i: usize) -> u12
     greatest_direct(system, i) + system.row(i).sent_above(from)
 }
 
+/// The light that `from` gives to a patch by the lower ends.
+#[derive(Drop)]
+struct LowerLight<'a> {
+    system: &'a IntervalSystem,
+    from: &'a [Tick],
+}
+
+impl<'a> RowJob<Tick> for LowerLight<'a> {
+    ghost use Rattle.std.specs.Prelude.{◌≡◌, ◌<◌, pos, length, All};
+    ghost use Rattle.fx_base.specs.Bound.{IsEnd};
+    ghost use Rattle.radiosity_solve.specs.Turn.{next_low};
+
+    ghost takes = { λ job i _. (i < length job.system.now.rows) × (length job.from.now ≡ length job.system.now.rows) × All IsEnd job.from.now };
+
+    ghost makes = { λ job i _ light. light ≡ record { 0 = pos (next_low job.system.now job.from.now i) } };
+
+    fn run(&self, index: usize, row: &mut Tick) {
+        *row = tick_of(lower_row(self.system, self.from, index));
+    }
+}
+
+/// The light that `from` gives to a patch by the upper ends.
+#[derive(Drop)]
+struct UpperLight<'a> {
+    system: &'a IntervalSystem,
+    from: &'a [Tick],
+}
+
+impl<'a> RowJob<Tick> for UpperLight<'a> {
+    ghost use Rattle.std.specs.Prelude.{◌≡◌, ◌<◌, pos, length, All};
+    ghost use Rattle.fx_base.specs.Bound.{IsEnd};
+    ghost use Rattle.radiosity_solve.specs.Turn.{next_high};
+
+    ghost takes = { λ job i _. (i < length job.system.now.rows) × (length job.from.now ≡ length job.system.now.rows) × All IsEnd job.from.now };
+
+    ghost makes = { λ job i _ light. light ≡ record { 0 = pos (next_high job.system.now job.from.now i) } };
+
+    fn run(&self, index: usize, row: &mut Tick) {
+        *row = tick_of(upper_row(self.system, self.from, index));
+    }
+}
+
 /// A turn from below.
-pub(crate) fn lower_turn(system: &IntervalSystem, from: &[Tick], into: &mut [Tick])
+pub(crate) fn lower_turn<R: Threads + Sync, G: Gate + Sync>(
+    rt: &R,
+    system: &IntervalSystem,
+    from: &[Tick],
+    into: &mut [Tick],
+    gate: &G,
+)
     requires size { length from.now ≡ length system.now.rows }
     requires room { length into.old ≡ length system.now.rows }
     requires ends { All IsEnd from.now }
     ensures { IsLowerTurn system.now from.now into.new }
 {
-    for i in 0..system.size() {
-        into[i] = tick_of(lower_row(system, from, i));
-    }
+    fill_rows(rt, into, &LowerLight { system, from }, gate, GRAIN);
 }
 
 /// A turn from above.
-pub(crate) fn upper_turn(system: &IntervalSystem, from: &[Tick], into: &mut [Tick])
+pub(crate) fn upper_turn<R: Threads + Sync, G: Gate + Sync>(
+    rt: &R,
+    system: &IntervalSystem,
+    from: &[Tick],
+    into: &mut [Tick],
+    gate: &G,
+)
     requires size { length from.now ≡ length system.now.rows }
     requires room { length into.old ≡ length system.now.rows }
     requires ends { All IsEnd from.now }
     ensures { IsUpperTurn system.now from.now into.new }
 {
-    for i in 0..system.size() {
-        into[i] = tick_of(upper_row(system, from, i));
-    }
+    fill_rows(rt, into, &UpperLight { system, from }, gate, GRAIN);
 }
 
 /// By how many ticks an end changed most.

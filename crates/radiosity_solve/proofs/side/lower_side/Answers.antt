@@ -8,7 +8,7 @@ use Rattle.radiosity_solve.proofs.NearEnough.{lower_settled, lower_answer}
 use Rattle.radiosity_solve.proofs.side.lower_side.Goals as goal
 
 pub loop-turn-init : goal.loop-turn-init
-loop-turn-init c =
+loop-turn-init g c =
     record {
       x_size = start_size (length c.args.system.now.rows) c.args.zeros.items _ c.requires.start;
       y_size = c.requires.room;
@@ -17,7 +17,7 @@ loop-turn-init c =
     }
 
 pub loop-turn-preserved : goal.loop-turn-preserved
-loop-turn-preserved c =
+loop-turn-preserved g c =
     let filled : length c.rise-change.new.into ≡ c.loop-turn.y.len = omega arith in
     let is : c.swap.new.x.items ≡ c.rise-change.new.into =
     ap (λ (v : Vec Tick Global). v.items) c.swap.ensures.x_after ∙ with_items_is c.loop-turn.y c.rise-change.new.into filled in
@@ -32,7 +32,7 @@ loop-turn-preserved c =
     }
 
 pub returns-then-change-le-SMALL_CHANGE : goal.returns-then-change-le-SMALL_CHANGE
-returns-then-change-le-SMALL_CHANGE c =
+returns-then-change-le-SMALL_CHANGE g c =
     let filled : length c.rise-change.new.into ≡ c.loop-turn.y.len = omega arith in
     let is : c.swap.new.x.items ≡ c.rise-change.new.into =
     ap (λ (v : Vec Tick Global). v.items) c.swap.ensures.x_after ∙ with_items_is c.loop-turn.y c.rise-change.new.into filled in
@@ -45,7 +45,7 @@ returns-then-change-le-SMALL_CHANGE c =
     (omega arith) c.rise-change.ensures.ends)
 
 pub returns : goal.returns
-returns c =
+returns g c =
     let last : c.loop-turn.turn ≡ 16384 = omega arith in
     lower_answer c.args.system.now c.loop-turn.x.items (mild c.args.system.now c.size-size.ensures.system c.requires.none_heavy)
     c.loop-turn.invariant.state.shown (lower_spent c.args.system.now c.loop-turn.x.items (rw last at c.loop-turn.invariant.state))

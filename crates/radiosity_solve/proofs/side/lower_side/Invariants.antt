@@ -4,7 +4,7 @@ use Rattle.radiosity_solve.proofs.Iterates.{IsLowerState}
 use Rattle.radiosity_solve.proofs.side.lower_side.Given as goal
 
 abbrev pub invariant-loop-turn : goal.invariant-loop-turn
-invariant-loop-turn l = record {
+invariant-loop-turn g l = record {
   x_size : length l.x.items ≡ length l.system.rows;
   y_size : length l.y.items ≡ length l.system.rows;
   ends : All IsEnd l.x.items;

@@ -3,4 +3,4 @@ use Rattle.fx_base.specs.Bound.{IsEnd}
 use Rattle.radiosity_solve.proofs.guide.Guide.approach.Given as goal
 
 abbrev pub invariant-loop : goal.invariant-loop
-invariant-loop l = All IsEnd l.near
+invariant-loop g l = All IsEnd l.near
