@@ -1,0 +1,10 @@
+pub mod Options
+pub mod Bits
+pub mod Meeting
+pub mod Gathered
+pub mod Lowest
+pub mod Cuts
+pub mod Reached
+pub mod Built
+pub mod NearBoxes
+pub mod Agreed

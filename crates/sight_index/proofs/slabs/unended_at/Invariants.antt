@@ -1,0 +1,7 @@
+use Rattle.std.proofs.Common.{◌≤◌}
+use Rattle.sight_index.specs.Slabs.{along}
+use Rattle.sight_index.proofs.Gathered.{IsMaskOfFirst}
+use Rattle.sight_index.proofs.slabs.unended_at.Given as goal
+
+abbrev pub invariant-loop-b : goal.invariant-loop-b
+invariant-loop-b l = IsMaskOfFirst l.b (λ b. l.place ≤ along l.axis b.hi) l.blocks l.mask
