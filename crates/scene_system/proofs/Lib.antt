@@ -2,8 +2,9 @@ pub mod Kept
 pub mod Shares
 pub mod Orders
 pub mod Rows
-pub mod MoreLights
-pub mod MoreRows
+pub mod OneMore
+pub mod Lit
+pub mod Seen
 pub mod Heavy
 pub mod Lights
 pub mod HiddenPairs

@@ -1,8 +1,8 @@
 -- The light of several points, and of several lamps, one after the other.
-use Rattle.std.proofs.Common.{ℕ, suc, ◌+◌, ◌*◌, ◌^◌, ◌<◌, ◌≤◌, ◌≡◌, ℤ, pos, negsuc, ◌≤ℤ◌, List, length, take, sum_by, arith, ap, ◌∙◌, subst}
+use Rattle.std.proofs.Common.{ℕ, suc, ◌+◌, ◌*◌, ◌^◌, ◌<◌, ◌≤◌, ◌≡◌, ℤ, pos, negsuc, ◌≤ℤ◌, List, length, map, take, sum_by, arith, ap, sym, ◌∙◌, subst}
 use Rattle.std.proofs.lemmas.Int.{ints}
 use Rattle.std.proofs.Math.Nat.{mul-le-mul, le_of_mul-le-mul_left}
-use Rattle.std.proofs.lemmas.List.{take_all}
+use Rattle.std.proofs.lemmas.List.{get_or-map, length-map, take_all}
 use Rattle.std.proofs.lemmas.List.Sums.{sum_by_more}
 use Rattle.std.specs.Prelude.{slice_index_or}
 use Rattle.fx_base.specs.Fraction.{sum_to}
@@ -18,6 +18,7 @@ use Rattle.room_layout.specs.declared.geometry.Point.{Point}
 use Rattle.room_layout.specs.declared.geometry.Size.{Size}
 use Rattle.room_layout.specs.declared.room.Lamp.{Lamp}
 use Rattle.room_layout.specs.declared.room.Room.{Room}
+use Rattle.sight_index.specs.declared.vantage.Vantage.{Vantage}
 use Rattle.photo_table.specs.Table.{Table}
 use Rattle.interval_system.specs.System.{IsDirectLight}
 use Rattle.direct_light.specs.Lamps.{lamp_place, lamp_points, part_count}
@@ -26,6 +27,7 @@ use Rattle.scene_system.specs.Causes.{greatest_total, ticks_of, total_ticks}
 use Rattle.scene_system.specs.Light.{is_clear, lamp_light, light_of_first, light_of_points, loose_lamp_light, loose_light_of_first, loose_light_of_points, no_lamp}
 use Rattle.scene_system.specs.Parts.{IsDirectFor}
 use Rattle.scene_system.specs.Positions.{IsLampLight, IsShare, most_light}
+use Rattle.scene_system.specs.Sight.{at_of}
 use Rattle.scene_system.specs.Tables.{AreKept, AreTablesOf}
 use Rattle.scene_system.proofs.Kept.{ticks_most}
 use Rattle.direct_light.proofs.PointLists.{lamp_point_at, length-lamp_points}
@@ -95,18 +97,22 @@ no_points photos room p face l s low high = record {
   fits = rw high (omega arith);
 }
 
+pub lamp_count : (l : Lamp) (points : List Vantage) → map at_of points ≡ lamp_points l → length points ≡ part_count l
+lamp_count l points are = sym (length-map points at_of) ∙ ap length are ∙ length-lamp_points l
+
+point_there : (l : Lamp) (points : List Vantage) (k : ℕ) (d : Vantage) → map at_of points ≡ lamp_points l → k < part_count l → (slice_index_or points k d).at ≡ point_of (lamp_place l k)
+point_there l points k d are inside =
+    let here : k < length points = let e = lamp_count l points are in omega (arith, e, inside) in
+    sym (get_or-map at_of points k d d.at here) ∙ ap (λ (ps : List Point). slice_index_or ps k d.at) are ∙ lamp_point_at l k d.at inside
+
 -- the share of the point of number k
-pub share_at : (photos : List Table) (room : Room) (p : Place) (face : Face) (l : Lamp) (points : List Point) (k : ℕ) (d : Point) (t : Ends)
-    → points ≡ lamp_points l → k < part_count l
-    → IsShare photos l (place_of (slice_index_or points k d)) p face (is_clear room (place_of (slice_index_or points k d)) p) t
+pub share_at : (photos : List Table) (room : Room) (p : Place) (face : Face) (l : Lamp) (points : List Vantage) (k : ℕ) (d : Vantage) (t : Ends)
+    → map at_of points ≡ lamp_points l → k < part_count l
+    → IsShare photos l (place_of (slice_index_or points k d).at) p face (is_clear room (place_of (slice_index_or points k d).at) p) t
     → IsShare photos l (lamp_place l k) p face (is_clear room (lamp_place l k) p) t
 share_at photos room p face l points k d t are inside h =
     let P : Place → Type 0 = λ z. IsShare photos l z p face (is_clear room z p) t in
-    let e : slice_index_or points k d ≡ point_of (lamp_place l k) = ap (λ (ps : List Point). slice_index_or ps k d) are ∙ lamp_point_at l k d inside in
-    subst P (ap (λ (z : Point). place_of z) e) h
-
-pub lamp_count : (l : Lamp) (points : List Point) → points ≡ lamp_points l → length points ≡ part_count l
-lamp_count l points are = ap length are ∙ length-lamp_points l
+    subst P (ap (λ (z : Point). place_of z) (point_there l points k d are inside)) h
 
 pub lamp_bounds : (photos : List Table) (room : Room) (l : Lamp) → IsLampIn room.size (length room.files) l → length photos ≡ length room.files → AreKept photos
     → (1 ≤ part_count l) × (most_light (ticks_of photos l) (part_count l) ≤ 2 ^ 82)

@@ -5,7 +5,10 @@ pub mod Causes
 pub mod Tables
 pub mod Positions
 pub mod Parts
+pub mod Sight
 pub mod Receivers
+pub mod Reserved
+pub mod Sources
 pub mod RowSums
 pub mod Laws
 mod SceneTests

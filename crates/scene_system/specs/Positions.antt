@@ -1,30 +1,30 @@
 -- The light that the program finds at a place: that of one point of a lamp, and of one lamp. `photos` are the tables that it keeps of the
 -- room's files.
-use Rattle.std.specs.Prelude.{ℕ, ◌+◌, ◌*◌, ◌<◌, ◌≡◌, ◌≤◌, pos, ◌≤ℤ◌, Bool, List, All, length, slice_index_or}
+use Rattle.std.specs.Prelude.{ℕ, ◌+◌, ◌*◌, ◌<◌, ◌≡◌, ◌≤◌, pos, ◌≤ℤ◌, Bool, List, length, slice_index_or}
 use Rattle.fx_base.specs.Ends.{Ends}
 use Rattle.fx_base.specs.Interval.{Meets, LiesIn}
 use Rattle.fx_base.specs.Units.{natural, of_span}
 use Rattle.room_layout.specs.Place.{Place}
-use Rattle.room_layout.specs.Positions.{IsInReach}
 use Rattle.room_layout.specs.declared.geometry.Face.{Face}
 use Rattle.room_layout.specs.declared.room.Lamp.{Lamp}
 use Rattle.room_layout.specs.declared.room.Room.{Room}
+use Rattle.sight_index.specs.declared.index.SightIndex.{SightIndex}
 use Rattle.photo_table.specs.Table.{Table}
 use Rattle.direct_light.specs.Lamps.{lamp_points, part_count}
 use Rattle.direct_light.specs.Shares.{share, loose_share}
 use Rattle.scene_system.specs.Causes.{ticks_of}
 use Rattle.scene_system.specs.Light.{lamp_light, loose_lamp_light, no_lamp}
+use Rattle.scene_system.specs.Sight.{AreVantagesOf}
 use Rattle.scene_system.specs.Tables.{AreTablesOf}
 use Rattle.scene_system.specs.declared.points.LampPoints.{LampPoints}
 
 -- the points of the first `count` lamps of a room, lamp by lamp
-pub record ArePointsOfFirst (room : Room) (count : ℕ) (points : List LampPoints) : Type 0 where
+pub record ArePointsOfFirst (room : Room) (index : SightIndex) (count : ℕ) (points : List LampPoints) : Type 0 where
   pub size : length points ≡ count
-  pub each : (k : ℕ) (d : LampPoints) → k < length points → (slice_index_or points k d).points.items ≡ lamp_points (slice_index_or room.lamps k no_lamp)
-  pub within : (k : ℕ) (d : LampPoints) → k < length points → All IsInReach (slice_index_or points k d).points.items
+  pub each : (k : ℕ) (d : LampPoints) → k < length points → AreVantagesOf index (lamp_points (slice_index_or room.lamps k no_lamp)) (slice_index_or points k d).points.items
 
-abbrev pub ArePointsOf : Room → List LampPoints → Type 0
-ArePointsOf room points = ArePointsOfFirst room (length room.lamps) points
+abbrev pub ArePointsOf : Room → SightIndex → List LampPoints → Type 0
+ArePointsOf room index points = ArePointsOfFirst room index (length room.lamps) points
 
 -- the most that a lamp of so many ticks and parts gives, in ticks: at half a millimetre, and what rounding adds for each part
 abbrev pub most_light : ℕ → ℕ → ℕ

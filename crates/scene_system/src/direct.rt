@@ -1,67 +1,70 @@
 //! The direct light of patches and of task points.
-ghost use Rattle.std.specs.Prelude.{◌≡◌, ℕ, ◌≤◌, IfOk, length};
-ghost use Rattle.room_layout.specs.Accepted.{IsAccepted};
-ghost use Rattle.room_layout.specs.declared.geometry.Face.TheVariants.{Up};
-ghost use Rattle.scene_system.specs.Causes.{greatest_total, total_ticks};
-ghost use Rattle.scene_system.specs.Parts.{AreLightsAt, ArePatchesOf, AreTaskPointsOf};
-ghost use Rattle.scene_system.specs.Positions.{ArePointsOf};
-ghost use Rattle.scene_system.specs.Scene.{patch_count, patch_face, patch_place, task_point_place};
-ghost use Rattle.scene_system.specs.Tables.{AreKept};
+ghost use Rattle.std.specs.Prelude.{◌≡◌, All, IfOk, length};
+ghost use Rattle.scene_system.specs.Parts.{AreLightsAt};
+ghost use Rattle.scene_system.specs.Receivers.{faces_lit, places_lit, IsReceiver};
+ghost use Rattle.scene_system.specs.Sources.{AreSources};
 
 use crate::light::light_at;
-use crate::points::LampPoints;
+use crate::receiver::{GRAIN, Receiver};
+use crate::sources::Sources;
+use fork_rows::{Gate, RowJob, fill_rows};
 use fx_base::{Memory, Span};
-use patch_mesh::{Patch, TaskPoint};
-use photo_table::PhotoTable;
-use room_layout::{Face, Room};
-use series_enclose::TangentTable;
 use std::alloc::Global;
+use std::thread::Threads;
 
-/// The direct light of each patch, in the order of the patches.
-pub fn patch_lights(
-    alloc: Global,
-    table: &TangentTable,
-    room: &Room,
-    photos: &[PhotoTable],
-    points: &[LampPoints],
-    patches: &[Patch],
-) -> Result<Vec<Span>, Memory>
-    requires accepted { IsAccepted room.now }
-    requires photos { length photos.now ≡ length room.now.files }
-    requires kept { AreKept photos.now }
-    requires dim { total_ticks photos.now room.now ≤ greatest_total }
-    requires points { ArePointsOf room.now points.now }
-    requires patches { ArePatchesOf room.now patches.now }
-    ensures { IfOk result (λ lights. AreLightsAt photos.now room.now (patch_place room.now) (patch_face room.now) (patch_count room.now) lights.items) }
-{
-    let mut lights = Vec::new(alloc);
-    for i in 0..patches.len() {
-        let patch = &patches[i];
-        lights.push(light_at(table, room, photos, points, patch.centre, patch.face))?;
-    }
-    Ok(lights)
+/// Finds the direct light at a receiver.
+#[derive(Drop)]
+struct Lighting<'a> {
+    sources: &'a Sources<'a>,
+    receivers: &'a [Receiver],
 }
 
-/// The direct light of each task point, in the order of the points.
-pub fn point_lights(
-    alloc: Global,
-    table: &TangentTable,
-    room: &Room,
-    photos: &[PhotoTable],
-    points: &[LampPoints],
-    task: &[TaskPoint],
-) -> Result<Vec<Span>, Memory>
-    requires accepted { IsAccepted room.now }
-    requires photos { length photos.now ≡ length room.now.files }
-    requires kept { AreKept photos.now }
-    requires dim { total_ticks photos.now room.now ≤ greatest_total }
-    requires points { ArePointsOf room.now points.now }
-    requires task { AreTaskPointsOf room.now task.now }
-    ensures { IfOk result (λ lights. AreLightsAt photos.now room.now (task_point_place room.now) (λ _. Up) (length task.now) lights.items) }
-{
-    let mut lights = Vec::new(alloc);
-    for g in 0..task.len() {
-        lights.push(light_at(table, room, photos, points, task[g].at, Face::Up))?;
+impl<'a> RowJob<Span> for Lighting<'a> {
+    ghost use Rattle.std.specs.Prelude.{◌<◌, All, length};
+    ghost use Rattle.interval_system.specs.System.{IsDirectLight};
+    ghost use Rattle.scene_system.specs.Parts.{IsDirectFor};
+    ghost use Rattle.scene_system.specs.Receivers.{faces_lit, places_lit, IsReceiver};
+    ghost use Rattle.scene_system.specs.Sources.{AreSources};
+
+    ghost takes = { λ job i _. AreSources job.sources.now × All (IsReceiver job.sources.now.index.now) job.receivers.now × (i < length job.receivers.now) };
+
+    ghost makes = { λ job i _ light. IsDirectFor job.sources.now.photos.now job.sources.now.room.now (places_lit job.receivers.now i) (faces_lit job.receivers.now i) light × IsDirectLight light };
+
+    fn run(&self, index: usize, row: &mut Span) {
+        let receiver = &self.receivers[index];
+        *row = light_at(self.sources, &receiver.seen, receiver.face());
     }
+}
+
+/// Finds the direct light at each receiver.
+fn fill_lights<R: Threads + Sync, G: Gate + Sync>(
+    rt: &R,
+    sources: &Sources,
+    receivers: &[Receiver],
+    lights: &mut [Span],
+    gate: &G,
+)
+    requires sources { AreSources sources.now }
+    requires receivers { All (IsReceiver sources.now.index.now) receivers.now }
+    requires size { length lights.old ≡ length receivers.now }
+    ensures { AreLightsAt sources.now.photos.now sources.now.room.now (places_lit receivers.now) (faces_lit receivers.now) (length receivers.now) lights.new }
+{
+    fill_rows(rt, lights, &Lighting { sources, receivers }, gate, GRAIN);
+}
+
+/// The direct light at each receiver, in their order.
+pub fn lights_at<R: Threads + Sync, G: Gate + Sync>(
+    rt: &R,
+    alloc: Global,
+    sources: &Sources,
+    receivers: &[Receiver],
+    gate: &G,
+) -> Result<Vec<Span>, Memory>
+    requires sources { AreSources sources.now }
+    requires receivers { All (IsReceiver sources.now.index.now) receivers.now }
+    ensures { IfOk result (λ lights. AreLightsAt sources.now.photos.now sources.now.room.now (places_lit receivers.now) (faces_lit receivers.now) (length receivers.now) lights.items) }
+{
+    let mut lights = vec![in alloc; Span::whole(0); receivers.len()]?;
+    fill_lights(rt, sources, receivers, lights.as_mut_slice(), gate);
     Ok(lights)
 }

@@ -8,10 +8,12 @@ mod fault;
 pub mod laws;
 mod light;
 mod limits;
+mod lists;
 mod points;
 mod receiver;
 mod scene;
 mod sight;
+mod sources;
 mod weights;
 
 pub use assembly::assemble;

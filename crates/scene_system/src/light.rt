@@ -1,80 +1,68 @@
 //! The light that lamps give at a place.
-ghost use Rattle.std.specs.Prelude.{◌≡◌, ◌+◌, ◌^◌, ◌≤◌, ◌≤ℤ◌, pos, true, length, All};
+ghost use Rattle.std.specs.Prelude.{◌≡◌, ◌+◌, ◌^◌, ◌≤◌, ◌≤ℤ◌, pos, true, length};
 ghost use Rattle.fx_base.specs.Units.{natural};
-ghost use Rattle.room_layout.specs.Accepted.{IsAccepted, IsLampIn};
+ghost use Rattle.room_layout.specs.Accepted.{IsLampIn};
 ghost use Rattle.room_layout.specs.Place.{place_of};
 ghost use Rattle.room_layout.specs.Positions.{IsInReach};
+ghost use Rattle.sight_index.specs.Vantages.{IsVantage};
 ghost use Rattle.interval_system.specs.System.{IsDirectLight};
 ghost use Rattle.direct_light.specs.Lamps.{lamp_points};
-ghost use Rattle.scene_system.specs.Causes.{greatest_total, total_ticks};
 ghost use Rattle.scene_system.specs.Light.{is_clear};
 ghost use Rattle.scene_system.specs.Parts.{IsDirectFor};
-ghost use Rattle.scene_system.specs.Positions.{ArePointsOf, IsLampLight, IsShare};
-ghost use Rattle.scene_system.specs.Tables.{AreKept};
+ghost use Rattle.scene_system.specs.Positions.{IsLampLight, IsShare};
+ghost use Rattle.scene_system.specs.Sight.{AreVantagesOf};
+ghost use Rattle.scene_system.specs.Sources.{AreSources};
 
-use crate::points::LampPoints;
 use crate::sight::is_clear;
+use crate::sources::Sources;
 use direct_light::{direct, even_light};
 use fx_base::Span;
-use photo_table::PhotoTable;
-use room_layout::{Face, Lamp, Point, Room, Shine, in_front, position_of};
-use series_enclose::TangentTable;
+use room_layout::{Face, Lamp, Point, Shine, in_front, position_of};
+use sight_index::Vantage;
 
 /// The light of a lamp's point `from` on a plane with this face at a point, where no box stands between.
-fn open_light(
-    table: &TangentTable,
-    room: &Room,
-    photos: &[PhotoTable],
-    lamp: &Lamp,
-    from: Point,
-    at: Point,
-    face: Face,
-) -> Span
-    requires accepted { IsAccepted room.now }
-    requires photos { length photos.now ≡ length room.now.files }
-    requires kept { AreKept photos.now }
-    requires lamp { IsLampIn room.now.size (length room.now.files) lamp.now }
+fn open_light(sources: &Sources, lamp: &Lamp, from: Point, at: Point, face: Face) -> Span
+    requires sources { AreSources sources.now }
+    requires lamp { IsLampIn sources.now.room.now.size (length sources.now.room.now.files) lamp.now }
     requires from { IsInReach from }
     requires at { IsInReach at }
-    ensures light { IsShare photos.now lamp.now (place_of from) (place_of at) face true result }
+    ensures light { IsShare sources.now.photos.now lamp.now (place_of from) (place_of at) face true result }
 {
     match lamp.shine {
         Shine::Even(candela) => even_light(candela, lamp, from, at, face, true),
         Shine::File(number) => {
             let file = number as usize;
-            direct(table, &photos[file], lamp, from, at, face, true)
+            direct(
+                sources.table,
+                &sources.photos[file],
+                lamp,
+                from,
+                at,
+                face,
+                true,
+            )
         }
     }
 }
 
 /// The light of a lamp's point `from` on a plane with this face at a point: none where it isn't in front of the plane, or a box
 /// stands between.
-fn light_of_point(
-    table: &TangentTable,
-    room: &Room,
-    photos: &[PhotoTable],
-    lamp: &Lamp,
-    from: Point,
-    at: Point,
-    face: Face,
-) -> Span
-    requires accepted { IsAccepted room.now }
-    requires photos { length photos.now ≡ length room.now.files }
-    requires kept { AreKept photos.now }
-    requires lamp { IsLampIn room.now.size (length room.now.files) lamp.now }
-    requires from { IsInReach from }
-    requires at { IsInReach at }
-    ensures light { IsShare photos.now lamp.now (place_of from) (place_of at) face (is_clear room.now (place_of from) (place_of at)) result }
+fn light_of_point(sources: &Sources, lamp: &Lamp, from: &Vantage, at: &Vantage, face: Face) -> Span
+    requires sources { AreSources sources.now }
+    requires lamp { IsLampIn sources.now.room.now.size (length sources.now.room.now.files) lamp.now }
+    requires from { IsVantage sources.now.index.now from.now }
+    requires at { IsVantage sources.now.index.now at.now }
+    ensures light { IsShare sources.now.photos.now lamp.now (place_of from.now.at) (place_of at.now.at) face (is_clear sources.now.room.now (place_of from.now.at) (place_of at.now.at)) result }
 {
-    let here = position_of(at);
-    let there = position_of(from);
+    let here = position_of(at.at);
+    let there = position_of(from.at);
     if in_front(face, &here, &there) == 0 {
         return Span::whole(0);
     }
-    if !is_clear(room, from, at) {
+    if !is_clear(sources.room, sources.index, from, at) {
         return Span::whole(0);
     }
-    open_light(table, room, photos, lamp, from, at, face)
+    open_light(sources, lamp, from.at, at.at, face)
 }
 
 /// Two lights together.
@@ -94,57 +82,39 @@ fn together(a: Span, b: Span) -> Span
 
 /// The light of all points of a lamp on a plane with this face at a point.
 fn light_of_lamp(
-    table: &TangentTable,
-    room: &Room,
-    photos: &[PhotoTable],
+    sources: &Sources,
     lamp: &Lamp,
-    points: &[Point],
-    at: Point,
+    points: &[Vantage],
+    at: &Vantage,
     face: Face,
 ) -> Span
-    requires accepted { IsAccepted room.now }
-    requires photos { length photos.now ≡ length room.now.files }
-    requires kept { AreKept photos.now }
-    requires lamp { IsLampIn room.now.size (length room.now.files) lamp.now }
-    requires points { points.now ≡ lamp_points lamp.now }
-    requires within { All IsInReach points.now }
-    requires at { IsInReach at }
-    ensures light { IsLampLight photos.now room.now (place_of at) face lamp.now result }
+    requires sources { AreSources sources.now }
+    requires lamp { IsLampIn sources.now.room.now.size (length sources.now.room.now.files) lamp.now }
+    requires points { AreVantagesOf sources.now.index.now (lamp_points lamp.now) points.now }
+    requires at { IsVantage sources.now.index.now at.now }
+    ensures light { IsLampLight sources.now.photos.now sources.now.room.now (place_of at.now.at) face lamp.now result }
     ensures high { natural result.hi ≤ 2 ^ 82 }
 {
     let mut light = Span::whole(0);
     for i in 0..points.len() {
-        let share = light_of_point(table, room, photos, lamp, points[i], at, face);
+        let share = light_of_point(sources, lamp, &points[i], at, face);
         light = together(light, share);
     }
     light
 }
 
-/// The light of all lamps on a plane with this face at a point, in the order of the lamps. `photos` are the tables of the room's files,
-/// and `points` those of its lamps.
-pub fn light_at(
-    table: &TangentTable,
-    room: &Room,
-    photos: &[PhotoTable],
-    points: &[LampPoints],
-    at: Point,
-    face: Face,
-) -> Span
-    requires accepted { IsAccepted room.now }
-    requires photos { length photos.now ≡ length room.now.files }
-    requires kept { AreKept photos.now }
-    requires dim { total_ticks photos.now room.now ≤ greatest_total }
-    requires points { ArePointsOf room.now points.now }
-    requires at { IsInReach at }
-    ensures direct { IsDirectFor photos.now room.now (place_of at) face result }
+/// The light of all lamps on a plane with this face at a point, in the order of the lamps.
+pub fn light_at(sources: &Sources, at: &Vantage, face: Face) -> Span
+    requires sources { AreSources sources.now }
+    requires at { IsVantage sources.now.index.now at.now }
+    ensures direct { IsDirectFor sources.now.photos.now sources.now.room.now (place_of at.now.at) face result }
     ensures light { IsDirectLight result }
 {
     let mut light = Span::whole(0);
-    let lamps = room.lamps.as_slice();
-    for k in 0..points.len() {
-        let lamp = &lamps[k];
-        let all = points[k].points.as_slice();
-        let one = light_of_lamp(table, room, photos, lamp, all, at, face);
+    let lamps = sources.room.lamps.as_slice();
+    for k in 0..sources.lamps.len() {
+        let points = sources.lamps[k].points.as_slice();
+        let one = light_of_lamp(sources, &lamps[k], points, at, face);
         light = together(light, one);
     }
     // its ends are in order

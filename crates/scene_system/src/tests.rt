@@ -3,7 +3,10 @@
 ghost use Rattle.std.specs.Prelude.{◌≡◌, ◌<◌, ◌≤◌, ◌≤ℤ◌, pos, All, IfOk, length};
 ghost use Rattle.room_layout.specs.Accepted.{IsAccepted, IsBlockIn, IsBetween, IsFileUse, IsLampIn, IsRoomSize, IsTaskIn};
 
+mod meeting;
+
 use crate::{Scene, SceneFault, assemble};
+use fork_rows::OpenGate;
 use fx_base::{Micro, Span, Tick, Weight};
 use photo_table::PhotoTable;
 use room_layout::{
@@ -13,6 +16,7 @@ use room_layout::{
 use series_enclose::TangentTable;
 use std::alloc::{AllocError, Global};
 use std::test::Fail;
+use std::thread::Threads;
 
 /// 200 lux, in ticks.
 const TWO_HUNDRED: i128 = 13_743_895_347_200;
@@ -254,7 +258,7 @@ fn a_cube_with_a_lamp_in_its_middle(rt: HostRuntime) -> Result<(), Fail> {
         lamps,
     );
     let table = TangentTable::build(rt.alloc())?;
-    let scene = assemble(rt.alloc(), &table, &room, &[])
+    let scene = assemble(&rt, rt.alloc(), &table, &room, &[], &OpenGate)
         .ok()
         .ok_or("scene")?;
     assert_eq!(rt; scene.patches.len(), 6);
@@ -275,7 +279,7 @@ fn a_box_keeps_light_off(rt: HostRuntime) -> Result<(), Fail> {
     let boxes = vec![in rt.alloc(); LOW_BOX]?;
     let room = room_of(CUBE, 2000, 0, boxes, Vec::new(rt.alloc()), lamps);
     let table = TangentTable::build(rt.alloc())?;
-    let scene = assemble(rt.alloc(), &table, &room, &[])
+    let scene = assemble(&rt, rt.alloc(), &table, &room, &[], &OpenGate)
         .ok()
         .ok_or("scene")?;
     let nothing = Some(Weight { lo: 0, hi: 0 });
@@ -289,7 +293,12 @@ fn a_box_keeps_light_off(rt: HostRuntime) -> Result<(), Fail> {
 }
 
 /// Why a room whose only task point is covered has no scene: patches of 1 m at most, and two lamps.
-fn fault_of(alloc: Global, size: Size, candela: u32) -> Result<Option<SceneFault>, Fail>
+fn fault_of<R: Threads + Sync>(
+    rt: &R,
+    alloc: Global,
+    size: Size,
+    candela: u32,
+) -> Result<Option<SceneFault>, Fail>
     requires size { IsRoomSize size }
     requires wide { (2000 ≤ size.x) × (2000 ≤ size.y) × (2000 ≤ size.z) }
     requires candela { candela ≤ 10000000 }
@@ -298,17 +307,17 @@ fn fault_of(alloc: Global, size: Size, candela: u32) -> Result<Option<SceneFault
     let boxes = vec![in alloc; COVER]?;
     let room = room_of(size, 1000, 1000, boxes, Vec::new(alloc), lamps);
     let table = TangentTable::build(alloc)?;
-    Ok(assemble(alloc, &table, &room, &[]).err())
+    Ok(assemble(rt, alloc, &table, &room, &[], &OpenGate).err())
 }
 
 #[test]
 fn of_two_causes_the_first_is_named(rt: HostRuntime) -> Result<(), Fail> {
-    let bright = fault_of(rt.alloc(), HALL, 5_000_001)?;
+    let bright = fault_of(&rt, rt.alloc(), HALL, 5_000_001)?;
     assert_eq!(rt; bright, Some(SceneFault::TotalIntensity));
     // six surfaces of 50 by 50 patches, and the box's six patches
-    let large = fault_of(rt.alloc(), HALL, 5_000_000)?;
+    let large = fault_of(&rt, rt.alloc(), HALL, 5_000_000)?;
     assert_eq!(rt; large, Some(SceneFault::TooManyPatches(15_006)));
-    let covered = fault_of(rt.alloc(), CUBE, 5_000_000)?;
+    let covered = fault_of(&rt, rt.alloc(), CUBE, 5_000_000)?;
     assert_eq!(rt; covered, Some(SceneFault::NoTaskPoint));
     Ok(())
 }
@@ -331,7 +340,9 @@ fn a_turned_lamp_of_a_file_lights_from_both_of_its_points(rt: HostRuntime) -> Re
     let room = room_of(CUBE, 2000, 0, Vec::new(alloc), two_files(alloc)?, lamps);
     let photos = vec![in alloc; at_most(alloc, 1)?, uneven(alloc)?]?;
     let table = TangentTable::build(alloc)?;
-    let scene = assemble(alloc, &table, &room, &photos).ok().ok_or("scene")?;
+    let scene = assemble(&rt, alloc, &table, &room, &photos, &OpenGate)
+        .ok()
+        .ok_or("scene")?;
     // the floor and its task point, the walls at the start of x and at the end of y, and the ceiling, which is past the last gamma
     assert!(rt; is_near(direct(&scene, 0).as_ref(), 52_614_675_591_692));
     assert!(rt; is_near(scene.point_direct.first(), 52_614_675_591_692));
@@ -343,7 +354,11 @@ fn a_turned_lamp_of_a_file_lights_from_both_of_its_points(rt: HostRuntime) -> Re
 
 /// Why a room whose only task point is covered has no scene, where the upper end of its file's table is so many ticks and another lamp
 /// has 5,000,000 cd.
-fn filed_fault(alloc: Global, ticks: i128) -> Result<Option<SceneFault>, Fail>
+fn filed_fault<R: Threads + Sync>(
+    rt: &R,
+    alloc: Global,
+    ticks: i128,
+) -> Result<Option<SceneFault>, Fail>
     requires low { pos 1 ≤ℤ ticks }
     requires high { ticks ≤ℤ pos 687194767360000000 }
 {
@@ -352,15 +367,15 @@ fn filed_fault(alloc: Global, ticks: i128) -> Result<Option<SceneFault>, Fail>
     let room = room_of(CUBE, 1000, 1000, boxes, two_files(alloc)?, lamps);
     let photos = vec![in alloc; uneven(alloc)?, at_most(alloc, ticks)?]?;
     let table = TangentTable::build(alloc)?;
-    Ok(assemble(alloc, &table, &room, &photos).err())
+    Ok(assemble(rt, alloc, &table, &room, &photos, &OpenGate).err())
 }
 
 // 5,000,000 cd in ticks, and one more
 #[test]
 fn one_tick_too_much_is_too_bright(rt: HostRuntime) -> Result<(), Fail> {
-    let just = filed_fault(rt.alloc(), 343_597_383_680_000_000)?;
+    let just = filed_fault(&rt, rt.alloc(), 343_597_383_680_000_000)?;
     assert_eq!(rt; just, Some(SceneFault::NoTaskPoint));
-    let more = filed_fault(rt.alloc(), 343_597_383_680_000_001)?;
+    let more = filed_fault(&rt, rt.alloc(), 343_597_383_680_000_001)?;
     assert_eq!(rt; more, Some(SceneFault::TotalIntensity));
     Ok(())
 }

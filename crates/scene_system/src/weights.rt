@@ -1,81 +1,105 @@
 //! The weights with which patches light one of them or a task point.
-ghost use Rattle.std.specs.Prelude.{◌≡◌, ℕ, ◌<◌, ◌≤◌, IfOk, length};
-ghost use Rattle.room_layout.specs.Place.{place_of};
-ghost use Rattle.room_layout.specs.declared.geometry.Face.TheVariants.{Up};
-ghost use Rattle.patch_mesh.specs.Bounds.{IsPatchIn, largest_room};
-ghost use Rattle.form_factor.specs.Weights.{IsCoefficient};
-ghost use Rattle.scene_system.specs.Light.{is_clear};
-ghost use Rattle.scene_system.specs.Parts.{ArePatchesOf, AreTaskPointsOf, AreRowsAt, IsRowAt};
-ghost use Rattle.scene_system.specs.Receivers.{face_lit, place_lit, IsReceiverIn};
-ghost use Rattle.scene_system.specs.Scene.{patch_count, patch_face, patch_place, task_point_place};
+ghost use Rattle.std.specs.Prelude.{◌≡◌, ◌<◌, All, IfOk, length, map, vec_items};
+ghost use Rattle.scene_system.specs.Assembled.{IsWeightAt};
+ghost use Rattle.scene_system.specs.Parts.{AreRowsAt, IsRowAt};
+ghost use Rattle.scene_system.specs.Receivers.{face_lit, faces_lit, place_lit, places_lit, IsReceiver};
+ghost use Rattle.scene_system.specs.Reserved.{IsReserved};
+ghost use Rattle.scene_system.specs.Sources.{AreSources};
 
-use crate::receiver::{Receiver, open_weight, point_lit};
+use crate::lists::{reserved_lists, rows_of};
+use crate::receiver::{GRAIN, Receiver, open_weight};
 use crate::sight::is_clear;
+use crate::sources::Sources;
+use fork_rows::{Gate, RowJob, fill_rows};
 use fx_base::{Memory, Weight};
 use interval_system::Row;
-use patch_mesh::{Patch, TaskPoint};
-use room_layout::Room;
 use std::alloc::Global;
+use std::thread::Threads;
 
-/// The weight with which patch `b` lights a receiver. Sight is asked only where something is handed on.
-fn weight_at(room: &Room, receiver: Receiver, b: &Patch) -> Weight
-    requires receiver { IsReceiverIn receiver }
-    requires b { IsPatchIn largest_room b.now }
-    ensures { IsCoefficient (place_lit receiver) (face_lit receiver) b.now (is_clear room.now (place_lit receiver) (place_of b.now.centre)) result }
+/// The weight with which patch j lights a receiver. Sight is asked only where something is handed on.
+fn weight_at(sources: &Sources, receiver: &Receiver, j: usize) -> Weight
+    requires sources { AreSources sources.now }
+    requires receiver { IsReceiver sources.now.index.now receiver.now }
+    requires j { j < length sources.now.patches.now }
+    ensures { IsWeightAt sources.now.room.now (place_lit receiver.now) (face_lit receiver.now) j result }
 {
-    let open = open_weight(receiver, b);
+    let open = open_weight(receiver, &sources.patches[j]);
     if open.hi == 0 {
         return open;
     }
-    if is_clear(room, point_lit(receiver), b.centre) {
+    let there = &sources.lit[j].seen;
+    if is_clear(sources.room, sources.index, &receiver.seen, there) {
         return open;
     }
     Weight::NONE
 }
 
-/// The weights with which the patches of the room light a receiver.
-fn row_at(alloc: Global, room: &Room, patches: &[Patch], receiver: Receiver) -> Result<Row, Memory>
-    requires patches { ArePatchesOf room.now patches.now }
-    requires receiver { IsReceiverIn receiver }
-    ensures { IfOk result (λ row. IsRowAt room.now (place_lit receiver) (face_lit receiver) row) }
+/// Puts the weights with which the patches light a receiver into an empty list, which has room for them.
+fn put_weights(sources: &Sources, receiver: &Receiver, row: &mut Vec<Weight>)
+    requires sources { AreSources sources.now }
+    requires receiver { IsReceiver sources.now.index.now receiver.now }
+    requires room { IsReserved (length sources.now.patches.now) row.old }
+    ensures { IsRowAt sources.now.room.now (place_lit receiver.now) (face_lit receiver.now) row.new.items }
 {
-    let mut row = Row::new(alloc, patches.len())?;
-    for j in 0..patches.len() {
-        row.put(j, weight_at(room, receiver, &patches[j]));
+    for j in 0..sources.patches.len() {
+        row.push_reserved(weight_at(sources, receiver, j));
     }
-    Ok(row)
 }
 
-/// The weights of all patches at each patch, in the order of the patches.
-pub fn patch_rows(alloc: Global, room: &Room, patches: &[Patch]) -> Result<Vec<Row>, Memory>
-    requires patches { ArePatchesOf room.now patches.now }
-    ensures { IfOk result (λ rows. AreRowsAt room.now (patch_place room.now) (patch_face room.now) (patch_count room.now) rows.items) }
-{
-    let mut rows = Vec::new(alloc);
-    for i in 0..patches.len() {
-        let receiver = Receiver::Patch(patches[i]);
-        let row = row_at(alloc, room, patches, receiver)?;
-        rows.push(row)?;
-    }
-    Ok(rows)
+/// Puts the weights of a receiver into its list.
+#[derive(Drop)]
+struct Weighing<'a> {
+    sources: &'a Sources<'a>,
+    receivers: &'a [Receiver],
 }
 
-/// The weights of all patches at each task point, in the order of the points.
-pub fn point_rows(
+impl<'a> RowJob<Vec<Weight>> for Weighing<'a> {
+    ghost use Rattle.std.specs.Prelude.{◌<◌, All, length};
+    ghost use Rattle.scene_system.specs.Parts.{IsRowAt};
+    ghost use Rattle.scene_system.specs.Receivers.{faces_lit, places_lit, IsReceiver};
+    ghost use Rattle.scene_system.specs.Reserved.{IsReserved};
+    ghost use Rattle.scene_system.specs.Sources.{AreSources};
+
+    ghost takes = { λ job i row. AreSources job.sources.now × All (IsReceiver job.sources.now.index.now) job.receivers.now × (i < length job.receivers.now) × IsReserved (length job.sources.now.patches.now) row };
+
+    ghost makes = { λ job i _ row. IsRowAt job.sources.now.room.now (places_lit job.receivers.now i) (faces_lit job.receivers.now i) row.items };
+
+    fn run(&self, index: usize, row: &mut Vec<Weight>) {
+        put_weights(self.sources, &self.receivers[index], row);
+    }
+}
+
+/// Puts the weights of each receiver into its list.
+fn fill_lists<R: Threads + Sync, G: Gate + Sync>(
+    rt: &R,
+    sources: &Sources,
+    receivers: &[Receiver],
+    lists: &mut [Vec<Weight>],
+    gate: &G,
+)
+    requires sources { AreSources sources.now }
+    requires receivers { All (IsReceiver sources.now.index.now) receivers.now }
+    requires size { length lists.old ≡ length receivers.now }
+    requires room { All (IsReserved (length sources.now.patches.now)) lists.old }
+    ensures { AreRowsAt sources.now.room.now (places_lit receivers.now) (faces_lit receivers.now) (length receivers.now) (map vec_items lists.new) }
+{
+    fill_rows(rt, lists, &Weighing { sources, receivers }, gate, GRAIN);
+}
+
+/// The weights of all patches at each receiver, in their order.
+pub fn rows_at<R: Threads + Sync, G: Gate + Sync>(
+    rt: &R,
     alloc: Global,
-    room: &Room,
-    patches: &[Patch],
-    points: &[TaskPoint],
+    sources: &Sources,
+    receivers: &[Receiver],
+    gate: &G,
 ) -> Result<Vec<Row>, Memory>
-    requires patches { ArePatchesOf room.now patches.now }
-    requires points { AreTaskPointsOf room.now points.now }
-    ensures { IfOk result (λ rows. AreRowsAt room.now (task_point_place room.now) (λ _. Up) (length points.now) rows.items) }
+    requires sources { AreSources sources.now }
+    requires receivers { All (IsReceiver sources.now.index.now) receivers.now }
+    ensures { IfOk result (λ rows. AreRowsAt sources.now.room.now (places_lit receivers.now) (faces_lit receivers.now) (length receivers.now) rows.items) }
 {
-    let mut rows = Vec::new(alloc);
-    for g in 0..points.len() {
-        let receiver = Receiver::Point(points[g].at);
-        let row = row_at(alloc, room, patches, receiver)?;
-        rows.push(row)?;
-    }
-    Ok(rows)
+    let mut lists = reserved_lists(alloc, receivers.len(), sources.patches.len())?;
+    let rows = Vec::with_capacity(alloc, receivers.len())?;
+    fill_lists(rt, sources, receivers, lists.as_mut_slice(), gate);
+    Ok(rows_of(lists, rows))
 }

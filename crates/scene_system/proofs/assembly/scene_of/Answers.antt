@@ -1,20 +1,21 @@
-use Rattle.std.proofs.Common.{◌∙◌, ap, length}
-use Rattle.interval_system.specs.System.{IsSystem}
-use Rattle.scene_system.proofs.RowLists.{is_system, well_formed}
+-- The task points have the rows and the light of the receivers that they are.
+use Rattle.std.proofs.Common.{length}
+use Rattle.room_layout.specs.declared.geometry.Face.TheVariants.{Up}
+use Rattle.scene_system.specs.Receivers.{AreReceiversAt}
+use Rattle.scene_system.specs.Scene.{task_point_place}
+use Rattle.scene_system.proofs.Lit.{lights_placed, rows_placed, tasks_at}
+use Rattle.scene_system.proofs.RowLists.{well_formed}
 use Rattle.scene_system.proofs.assembly.scene_of.Goals as goal
 
-pub from_rows-system-requires : goal.from_rows-system-requires
-from_rows-system-requires c =
-    let is : IsSystem (record { rows = c.in_ok-rows.rows.items; direct = c.in_ok-direct.direct.items })
-    = is_system c.args.photos.now c.args.room.now _ _ c.args.patches.items _ _ c.requires.patches c.in_ok-rows.ensures c.in_ok-direct.ensures in
-    record {
-      few = is.few;
-      square = is.square;
-      lights = is.lights;
-      light = λ k d l. record { low = (is.light k d l).low; most = (is.light k d l).most };
-    }
-
 pub returns-clause-formed : goal.returns-clause-formed
-returns-clause-formed c = well_formed c.args.photos.now c.args.room.now _ _ _ c.requires.accepted c.requires.patches c.requires.points c.requires.some
-    (ap length c.from_rows-system.ensures.rows ∙ c.in_ok-rows.ensures.size) c.size-size.ensures.system
-    (rw c.as_slice-3.ensures.value at c.in_ok-point_rows.ensures) (rw c.as_slice-5.ensures.value at c.in_ok-point_direct.ensures)
+returns-clause-formed g c =
+    let room = c.args.room.now in
+    let points = c.args.points.items in
+    let lit = c.in_ok-task.task.items in
+    let at : AreReceiversAt c.in_ok-index.index (task_point_place room) (λ _. Up) (length points) lit
+    = tasks_at c.in_ok-index.index room points (length points) lit c.requires.points.are (rw c.as_slice-6.ensures.value at c.in_ok-task.ensures) in
+    well_formed c.args.photos.now room _ (task_point_place room) (λ _. Up) c.requires.accepted c.requires.patches c.requires.points c.requires.some
+    c.in_ok-system.ensures.rows.size c.in_ok-system.ensures.system
+    (rows_placed c.in_ok-index.index room (task_point_place room) (λ _. Up) (length points) lit c.in_ok-point_rows.point_rows.items at (rw c.as_slice-7.ensures.value at c.in_ok-point_rows.ensures))
+    (lights_placed c.args.photos.now c.in_ok-index.index room (task_point_place room) (λ _. Up) (length points) lit c.in_ok-point_direct.point_direct.items at
+    (rw c.as_slice-8.ensures.value at c.in_ok-point_direct.ensures))

@@ -3,4 +3,4 @@ use Rattle.scene_system.proofs.Lights.{IsLightOfPoints}
 use Rattle.scene_system.proofs.light.light_of_lamp.Given as goal
 
 abbrev pub invariant-loop-i : goal.invariant-loop-i
-invariant-loop-i l = IsLightOfPoints l.photos l.room (place_of l.at) l.face l.lamp l.i l.light
+invariant-loop-i l = IsLightOfPoints l.sources.photos.now l.sources.room.now (place_of l.at.at) l.face l.lamp l.i l.light
