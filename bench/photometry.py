@@ -2,12 +2,15 @@
 """A second reader of EULUMDAT and LM-63, in Python's fractions and with none of Lux's code: the values against which the tests compare.
 
 usage: photometry.py FILE [SET] [C,GAMMA ..]         the summary, and in each direction the intensity and the ticks at or below it
+       photometry.py FILE [SET] flux LUMENS          the zonal flux downward, upward and in all, and whether it reaches LUMENS
        photometry.py --tests TESTS.rt                the same for the files and rows in that file of tests; it says where they differ
 
 A direction is in degrees. An intensity is the line's value times the conversion factor times the flux of the lamp set by 1000; in
 LM-63, which a name that ends in .ies tells, the value times the multiplier times the ballast factor, and under IESNA91 times the item
 after it. C is folded into the measured half-planes by the file's symmetry, and between neighbouring angles the intensity runs in a
-straight line. Ticks are 2^-36 candela. It takes the file to be sound, and looks for no faults.
+straight line. Ticks are 2^-36 candela. The flux of a zone, 5 degrees of gamma wide, is the mean intensity in its middle round the
+vertical times 2 pi (cos a - cos b), and between neighbouring half-planes the mean counts for their part of the turn. It takes the file
+to be sound, and looks for no faults.
 """
 import re
 import sys
@@ -17,6 +20,17 @@ from math import ceil, floor
 from pathlib import Path
 
 TICKS = 2**36
+PI = Fraction("3.14159265358979323846264338327950288419716939937510")
+
+
+def cosine(degrees):
+    """By its series, to more than 40 decimals."""
+    x = degrees * PI / 180
+    term, total, k = Fraction(1), Fraction(0), 0
+    while abs(term) > Fraction(1, 10**45):
+        total, k = total + term, k + 2
+        term = -term * x * x / (k * (k - 1))
+    return total
 
 
 def number(line):
@@ -61,12 +75,12 @@ class Lamp:
         return c
 
     def half_planes(self):
-        """How many half-planes, around the whole turn, have a measured one that stands for them."""
+        """The angles of the half-planes, around the whole turn, that have a measured one that stands for them."""
         if self.symmetry == AXIS:
-            return 1
+            return self.planes
         turns = {NONE: [lambda a: a], PLANE0: [lambda a: a, lambda a: -a], PLANE90: [lambda a: a, lambda a: 180 - a]}
         turns[BOTH] = [lambda a: a, lambda a: -a, lambda a: 180 - a, lambda a: 180 + a]
-        return len({turn(a) % 360 for a in self.planes for turn in turns[self.symmetry]})
+        return sorted({turn(a) % 360 for a in self.planes for turn in turns[self.symmetry]})
 
     def intensity(self, c, g):
         if not self.gammas[0] <= g <= self.gammas[-1]:
@@ -82,12 +96,34 @@ class Lamp:
         i = piece(planes, c)
         return line(planes[i:i + 2], [line(self.gammas, row, g) for row in rows[i:i + 2]], c)
 
+    def mean(self, g):
+        """The mean intensity round the vertical at gamma."""
+        planes = self.half_planes()
+        sectors = zip(planes, planes[1:] + [planes[0] + 360])
+        return sum((d - c) / Fraction(720) * (self.intensity(c, g) + self.intensity(d % 360, g)) for c, d in sectors)
+
+    def flux(self):
+        """Downward and upward, in lumens."""
+        zones = [self.mean(5 * k + Fraction(5, 2)) * 2 * PI * (cosine(5 * k) - cosine(5 * k + 5)) for k in range(36)]
+        return sum(zones[:18]), sum(zones[18:])
+
+    def flux_lines(self, lumens):
+        down, up = self.flux()
+        low, high = floor((down + up) * 100), ceil((down + up) * 100)
+        verdict = "met" if low >= 100 * lumens else "missed" if high < 100 * lumens else "undecided"
+        fluxes = [("down", down), ("up", up), ("flux", down + up)]
+        return [f"{name} {cents(floor(flux * 100))} {cents(ceil(flux * 100))}" for name, flux in fluxes] + [f"against {lumens} {verdict}"]
+
     def summary(self):
         greatest = max(max(row) for row in self.values)
         low, high = floor(greatest * TICKS), ceil(greatest * TICKS)
         low, high = floor(Fraction(low * 100, TICKS)), ceil(Fraction(high * 100, TICKS))
-        cents = lambda n: f"{n // 100}.{n % 100:02}"
-        return f"planes {self.half_planes()} gammas {len(self.gammas)} greatest {cents(low)} {cents(high)}"
+        return f"planes {len(self.half_planes())} gammas {len(self.gammas)} greatest {cents(low)} {cents(high)}"
+
+
+def cents(n):
+    """Hundredths as a decimal."""
+    return f"{n // 100}.{n % 100:02}"
 
 
 def read_eulumdat(data, lamp_set):
@@ -183,8 +219,11 @@ def main():
     if words[:1] == ["--tests"]:
         check(Path(words[1]).read_text())
     name, *words = words
-    lamp_set = int(words.pop(0)) if words and "," not in words[0] else 1
+    lamp_set = int(words.pop(0)) if words and words[0].isdigit() else 1
     lamp = read_lamp(name, Path(name).read_bytes(), lamp_set)
+    if words[:1] == ["flux"]:
+        print(*lamp.flux_lines(int(words[1])), sep="\n")
+        return
     print(lamp.summary())
     for word in words:
         c, g = (Fraction(part) for part in word.split(","))

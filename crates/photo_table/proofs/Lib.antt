@@ -7,6 +7,7 @@ pub mod Sheet
 pub mod Tables
 pub mod Hulls
 pub mod HullLaws
+pub mod Points
 pub mod Lists
 pub mod Corner
 pub mod Sweeps

@@ -24,6 +24,16 @@ pub plane_read : (ps gs : List Micro) (vs : List Ends) (i n : ℕ) → n ≡ len
 unfolding plane
 plane_read ps gs vs i n e = rw (e, count_is ps) refl
 
+-- the plane of number k within the first turn is the angle in its place
+pub plane_in_turn : (ps gs : List Micro) (vs : List Ends) (k : ℕ) (m : Micro) → k < length ps → m ≡ slice_index_or ps k m
+    → angle_of m ≡ plane (table_of ps gs vs) k
+plane_in_turn ps gs vs k m p e =
+    let t = table_of ps gs vs in
+    let a = plane_at t 0 k (rw (count_is ps) p) in
+    let f : 0 * length t.planes + k ≡ k = omega arith in
+    let g : angle_of m ≡ slice_index_or t.planes k 0 = ap angle_of e ∙ sym (angle_read ps k m p) in
+    let b = rw f at a in omega (arith, b, g)
+
 pub value_read : (ps gs : List Micro) (vs : List Ends) (i j n m : ℕ) (e : Ends) → n ≡ length ps → m ≡ length gs → i % n * m + j < length vs
     → e ≡ slice_index_or vs (i % n * m + j) e → value (table_of ps gs vs) i j ≡ of_span e
 unfolding value

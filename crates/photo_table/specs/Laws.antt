@@ -1,14 +1,31 @@
 -- What holds of the hull.
-use Rattle.std.specs.Prelude.{ℕ, ◌≡◌, length}
+use Rattle.std.specs.Prelude.{ℕ, ◌+◌, ◌*◌, ◌≡◌, length}
 use Rattle.fx_base.specs.Fraction.{Fraction, ◌≤ᶠ◌, ◌≈ᶠ◌, ◌+ᶠ◌, ◌-ᶠ◌, whole, lesser}
-use Rattle.fx_base.specs.Interval.{Interval, InOrder, Meets, LiesIn, Contains, outward, turned}
+use Rattle.fx_base.specs.Interval.{Interval, InOrder, Meets, LiesIn, Contains, exact, outward, turned}
 use Rattle.fx_base.specs.Units.{ticks}
-use Rattle.photo_table.specs.Table.{Table, IsTable, value, bilinear}
+use Rattle.photo_table.specs.Table.{Table, IsTable, plane, value, bilinear}
 use Rattle.photo_table.specs.Hull.{hull}
 
 -- it contains the intensity in every direction of the two brackets
 abbrev pub HullContains : Type 0
 HullContains = (t : Table) → IsTable t → (c g : Interval) (x y : Fraction) → Contains c x → Contains g y → LiesIn (bilinear t x y) (hull t c g)
+
+-- over one direction alone it is that intensity and no more
+abbrev pub HullAtPoint : Type 0
+HullAtPoint = (t : Table) → IsTable t → (x y : Fraction) → LiesIn (hull t (exact x) (exact y)) (bilinear t x y)
+
+-- as many planes on as make whole turns comes the same plane, these turns later
+abbrev pub PlanesGoRound : Type 0
+PlanesGoRound = (t : Table) → IsTable t → (i turns : ℕ) → plane t (i + length t.planes * turns) ≡ plane t i + 360000000 * turns
+
+-- both ends are the same numbers
+pub record AreSame (a b : Interval) : Type 0 where
+  pub lower : a.lo ≈ᶠ b.lo
+  pub upper : a.hi ≈ᶠ b.hi
+
+-- whole turns later there is the same intensity
+abbrev pub IntensityGoesRound : Type 0
+IntensityGoesRound = (t : Table) → IsTable t → (turns : ℕ) (x z y : Fraction) → z ≈ᶠ (x +ᶠ whole (360 * turns)) → AreSame (bilinear t z y) (bilinear t x y)
 
 -- wider brackets have a wider hull, where the narrower bracket of C lies in the wider one up to whole turns of either
 abbrev pub HullGrows : Type 0

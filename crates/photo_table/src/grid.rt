@@ -38,6 +38,16 @@ impl Grid {
         angle_at(&self.planes, i % count) + TURN * (i / count) as u64
     }
 
+    /// The plane of number k, within the first turn.
+    pub fn plane_of_turn(&self, k: usize) -> Micro
+        requires { k < length self.now.planes.items }
+        ensures angle { natural result.0 ≡ plane (table_in self.now) k }
+        ensures not_negative { pos 0 ≤ℤ result.0 }
+        ensures below { natural result.0 < 360000000 }
+    {
+        self.planes[k]
+    }
+
     /// The gamma of number j.
     fn gamma_at(&self, j: usize) -> u64
         requires { j < length self.now.gammas.items }

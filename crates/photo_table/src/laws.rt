@@ -1,11 +1,26 @@
 //! What holds of the hull, each law as the contract of a function that does nothing.
 
-ghost use Rattle.photo_table.specs.Laws.{HullContains, HullGrows, HullsMeet, HullsNear};
+ghost use Rattle.photo_table.specs.Laws.{HullContains, HullAtPoint, HullGrows, HullsMeet, HullsNear, PlanesGoRound, IntensityGoesRound};
 ghost use Rattle.photo_table.specs.Exact.{RoundsToNextTick, RoundedStands, RoundedIsNarrow};
 
 /// The hull contains the intensity in every direction of its two brackets.
 pub fn hull_contains()
     ensures { HullContains }
+{}
+
+/// The hull over one direction is the intensity there.
+pub fn hull_at_point()
+    ensures { HullAtPoint }
+{}
+
+/// After the last plane comes the first one a turn later, and so on.
+pub fn planes_go_round()
+    ensures { PlanesGoRound }
+{}
+
+/// Whole turns later the intensity is the same.
+pub fn intensity_goes_round()
+    ensures { IntensityGoesRound }
 {}
 
 /// A bracket of C and one of gamma within wider ones, the first up to whole turns, have a hull within the wider hull.

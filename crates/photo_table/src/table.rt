@@ -38,7 +38,7 @@ impl PhotoTable {
     ghost use Rattle.fx_base.specs.Fraction.{Fraction};
     ghost use Rattle.fx_base.specs.Interval.{Contains, LiesIn};
     ghost use Rattle.fx_base.specs.Units.{natural, ticks, of_span, of_bracket};
-    ghost use Rattle.photo_table.specs.Table.{bilinear, lower, upper};
+    ghost use Rattle.photo_table.specs.Table.{bilinear, lower, plane, upper};
     ghost use Rattle.photo_table.specs.Exact.{IsIntensityTable};
     ghost use Rattle.photo_table.specs.Hull.{hull as hull_of};
     ghost use Rattle.photo_table.specs.Kept.{ArePlanes, AreGammas, AreIntensities, IsGreatest, Rounds, even_table, table_of};
@@ -119,6 +119,18 @@ impl PhotoTable {
         ensures kept { IsIntensityTable self.now }
     {
         self.grid.planes.len()
+    }
+
+    /// The plane of number k, in millionths of a degree from 0 to below 360,000,000.
+    #[tactic(auto, using(crate::proofs::Intensities::kept_is))]
+    pub fn plane_angle(&self, k: usize) -> Micro
+        requires { k < length self.now.planes }
+        ensures angle { natural result.0 ≡ plane self.now k }
+        ensures not_negative { pos 0 ≤ℤ result.0 }
+        ensures below { natural result.0 < 360000000 }
+        ensures kept { IsIntensityTable self.now }
+    {
+        self.grid.plane_of_turn(k)
     }
 
     /// How many gammas there are.

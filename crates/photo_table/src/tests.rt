@@ -69,6 +69,16 @@ fn halfway_between_the_last_plane_and_the_first(rt: HostRuntime) -> Result<(), F
 }
 
 #[test]
+fn planes_are_counted_from_the_first(rt: HostRuntime) -> Result<(), Fail> {
+    let table = four_planes(rt.alloc())?;
+    assert_eq!(rt; table.planes(), 4);
+    assert_eq!(rt; table.plane_angle(0).0, 0);
+    assert_eq!(rt; table.plane_angle(2).0, 180_000_000);
+    assert_eq!(rt; table.plane_angle(3).0, 270_000_000);
+    Ok(())
+}
+
+#[test]
 fn a_bracket_over_the_end_of_a_turn(rt: HostRuntime) -> Result<(), Fail> {
     let table = four_planes(rt.alloc())?;
     let hull = table.hull(
