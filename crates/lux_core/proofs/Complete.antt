@@ -40,6 +40,7 @@ use Rattle.lux_core.specs.declared.words.FileQuestion.{FileQuestion}
 use Rattle.lux_core.specs.declared.words.FileQuestion.TheVariants as file
 use Rattle.lux_core.specs.declared.words.LightQuestion.{LightQuestion}
 use Rattle.lux_core.specs.declared.words.LightQuestion.TheVariants.{Report, Claim}
+use Rattle.lux_core.specs.declared.words.PhotometryQuestion.TheVariants as photometry
 use Rattle.lux_core.specs.declared.words.RoomQuestion.{RoomQuestion}
 use Rattle.lux_core.specs.declared.words.RoomQuestion.TheVariants as asks
 use Rattle.lux_core.specs.declared.words.Question.{Question}
@@ -274,8 +275,9 @@ room_full asked r told bytes claim room given text e s accepted able (inr o) =
 bytes_full : (asked : FileQuestion) (r : Run) (told : List (List ℕ × List ℕ)) (name claim bytes : List ℕ) (given : Status) (text : List ℕ) → r.files ≡ Some told
     → Stood r.faults.before r.faults.now → IsAble asked told claim bytes → IsBytesAnswer asked r name claim bytes given text → IsFullStatus (question.File asked) given
 bytes_full (file.Room asked) r told name claim bytes given text e s can a = room_full asked r told bytes claim can.room given text e s can.accepted can.able a
-bytes_full (file.Photometry format) r told name claim bytes given text e s can (ended, inl a) = a.status_is
-bytes_full (file.Photometry format) r told name claim bytes given text e s can (ended, inr a) = absurd (no_fault format bytes a.fault can a.refused)
+bytes_full (file.Photometry format photometry.Summary) r told name claim bytes given text e s can (ended, inl a) = a.status_is
+bytes_full (file.Photometry format (photometry.Flux lumens)) r told name claim bytes given text e s can (ended, inl a) = a.status_is
+bytes_full (file.Photometry format asked) r told name claim bytes given text e s can (ended, inr a) = absurd (no_fault format bytes a.fault can a.refused)
 
 file_full : (asked : FileQuestion) (r : Run) (told : List (List ℕ × List ℕ)) (name claim : List ℕ) (given : Status) (text : List ℕ) → r.files ≡ Some told
     → Stood r.faults.before r.faults.now → CanTellFile asked told name claim → IsFileAnswer asked r name claim given text → IsFullStatus (question.File asked) given

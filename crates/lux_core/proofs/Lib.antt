@@ -4,3 +4,4 @@ pub mod Complete
 pub mod Digits
 pub mod LampLists
 pub mod Statuses
+pub mod Luminaires

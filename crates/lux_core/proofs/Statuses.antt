@@ -26,6 +26,7 @@ use Rattle.lux_core.specs.declared.words.LightQuestion.{LightQuestion}
 use Rattle.lux_core.specs.declared.words.LightQuestion.TheVariants.{Report, Claim}
 use Rattle.lux_core.specs.declared.words.Question.{Question}
 use Rattle.lux_core.specs.declared.words.Question.TheVariants as question
+use Rattle.lux_core.specs.declared.words.PhotometryQuestion.TheVariants as photometry
 use Rattle.lux_core.specs.declared.words.RoomQuestion.{RoomQuestion}
 use Rattle.lux_core.specs.declared.words.RoomQuestion.TheVariants as asks
 use Rattle.lux_core.specs.declared.words.Spelling.TheVariants.{Lines, Records, Summary}
@@ -107,8 +108,9 @@ room asked r bytes name given text (inr o) = said asked r bytes name o.room give
 
 bytes_answer : (asked : FileQuestion) (r : Run) (name claim bytes : List ℕ) (given : Status) (text : List ℕ) → IsBytesAnswer asked r name claim bytes given text → IsWritten given
 bytes_answer (file.Room asked) r name claim bytes given text a = room asked r bytes claim given text a
-bytes_answer (file.Photometry format) r name claim bytes given text (ended, inl a) = by_done given a.status_is
-bytes_answer (file.Photometry format) r name claim bytes given text (ended, inr a) = by_refused given a.status_is
+bytes_answer (file.Photometry format photometry.Summary) r name claim bytes given text (ended, inl a) = by_done given a.status_is
+bytes_answer (file.Photometry format (photometry.Flux lumens)) r name claim bytes given text (ended, inl a) = by_done given a.status_is
+bytes_answer (file.Photometry format asked) r name claim bytes given text (ended, inr a) = by_refused given a.status_is
 
 of_file : (asked : FileQuestion) (r : Run) (name claim : List ℕ) (given : Status) (text : List ℕ) → IsFileAnswer asked r name claim given text → IsWritten given
 of_file asked r name claim given text (inl u) = untaken r name given text u

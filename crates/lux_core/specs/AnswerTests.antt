@@ -17,6 +17,7 @@ use Rattle.lux_core.specs.declared.words.FileQuestion.TheVariants as file
 use Rattle.lux_core.specs.declared.words.LightQuestion.TheVariants.{Report, Claim}
 use Rattle.lux_core.specs.declared.words.Question.TheVariants as question
 use Rattle.lux_core.specs.declared.words.Format.TheVariants.{Lm63, Eulumdat}
+use Rattle.lux_core.specs.declared.words.PhotometryQuestion.TheVariants as photometry
 use Rattle.lux_core.specs.declared.words.RoomQuestion.TheVariants.{Light, Check, Sight}
 use Rattle.lux_core.specs.declared.words.Spelling.TheVariants.{Lines, Records}
 
@@ -95,13 +96,13 @@ asks_for_sight : question_of (sight_words (codes "100000")) ≡ Some (question.F
 unfolding number_after
 asks_for_sight = refl
 
-asks_to_read : question_of (codes "read" ∷ codes "C.IeS" ∷ []) ≡ Some (question.File (file.Photometry Lm63))
+asks_to_read : question_of (codes "read" ∷ codes "C.IeS" ∷ []) ≡ Some (question.File (file.Photometry Lm63 photometry.Summary))
 asks_to_read = refl
 
-asks_for_the_first_set : question_of (codes "read" ∷ codes "A.LDT" ∷ []) ≡ Some (question.File (file.Photometry (Eulumdat 1)))
+asks_for_the_first_set : question_of (codes "read" ∷ codes "A.LDT" ∷ []) ≡ Some (question.File (file.Photometry (Eulumdat 1) photometry.Summary))
 asks_for_the_first_set = refl
 
-asks_for_the_last_set : question_of (codes "read" ∷ codes "a.ldt" ∷ codes "20" ∷ []) ≡ Some (question.File (file.Photometry (Eulumdat 20)))
+asks_for_the_last_set : question_of (codes "read" ∷ codes "a.ldt" ∷ codes "20" ∷ []) ≡ Some (question.File (file.Photometry (Eulumdat 20) photometry.Summary))
 unfolding number_after
 asks_for_the_last_set = refl
 
@@ -112,6 +113,24 @@ set_past_the_last = refl
 set_of_no_number : question_of (codes "read" ∷ codes "c.ies" ∷ codes "0" ∷ []) ≡ None
 unfolding number_after
 set_of_no_number = refl
+
+abbrev flux_words : (set lumens : List ℕ) → List (List ℕ)
+flux_words set lumens = codes "flux" ∷ codes "a.ldt" ∷ set ∷ lumens ∷ []
+
+asks_for_a_flux : question_of (flux_words (codes "2") (codes "1000000")) ≡ Some (question.File (file.Photometry (Eulumdat 2) (photometry.Flux 1000000)))
+unfolding number_after
+asks_for_a_flux = refl
+
+past_a_million_lumens : question_of (flux_words (codes "2") (codes "1000001")) ≡ None
+unfolding number_after
+past_a_million_lumens = refl
+
+flux_of_no_set : question_of (flux_words (codes "0") (codes "1000")) ≡ None
+unfolding number_after
+flux_of_no_set = refl
+
+flux_without_lumens : question_of (codes "flux" ∷ codes "a.ldt" ∷ codes "1" ∷ []) ≡ None
+flux_without_lumens = refl
 
 short_name : names_lm63 (codes "ies") ≡ false
 short_name = refl

@@ -17,11 +17,11 @@ use Rattle.lux_core.specs.declared.words.Question.TheVariants as question
 use Rattle.lux_core.specs.declared.words.RoomQuestion.TheVariants.{Light, Check}
 use Rattle.lux_core.specs.declared.words.Spelling.TheVariants.{Lines}
 
--- ---- what the bytes of a file give; a summary reads no other file
+-- ---- what the bytes of a file give; of a photometric file nothing is told by another file
 
 abbrev pub IsBytesAnswer : FileQuestion → Run → (name claim bytes : List ℕ) → Status → List ℕ → Type 0
 IsBytesAnswer (file.Room asked) r name claim bytes given text = IsRoomAnswer asked r bytes claim given text
-IsBytesAnswer (file.Photometry format) r name claim bytes given text = EndedWith r (Some bytes) × IsPhotometryAnswer format name bytes given text
+IsBytesAnswer (file.Photometry format asked) r name claim bytes given text = EndedWith r (Some bytes) × IsPhotometryAnswer format asked name bytes given text
 
 -- ---- what the name of a file gives
 
@@ -63,7 +63,7 @@ IsAnswer words r given text = IsUsage words given text ⊎ IsOfQuestion words r 
 -- it can be told of these bytes, by the files that the shelf tells
 abbrev pub IsAble : FileQuestion → List (List ℕ × List ℕ) → (claim bytes : List ℕ) → Type 0
 IsAble (file.Room asked) told claim bytes = CanTell asked told bytes claim
-IsAble (file.Photometry format) told claim bytes = CanSum format bytes
+IsAble (file.Photometry format asked) told claim bytes = CanSum format bytes
 
 -- the file is on the shelf and not too long, and of its bytes it can be told
 pub record CanTellFile (asked : FileQuestion) (told : List (List ℕ × List ℕ)) (name claim : List ℕ) : Type 0 where

@@ -13,6 +13,7 @@ use Rattle.lux_core.specs.declared.words.Question.TheVariants as question
 use Rattle.lux_core.specs.declared.words.FileQuestion.TheVariants as file
 use Rattle.lux_core.specs.declared.words.LightQuestion.{LightQuestion}
 use Rattle.lux_core.specs.declared.words.LightQuestion.TheVariants.{Report, Claim}
+use Rattle.lux_core.specs.declared.words.PhotometryQuestion.TheVariants as photometry
 use Rattle.lux_core.specs.declared.words.RoomQuestion.TheVariants.{Light, Check, Sight}
 use Rattle.lux_core.specs.declared.words.Spelling.TheVariants.{Lines, Records}
 
@@ -54,6 +55,10 @@ coordinate word = number_within 0 100000 word
 abbrev pub lamp_set : List ℕ → Option ℕ
 lamp_set word = number_within 1 20 word
 
+-- a number of lumens
+abbrev pub lumens : List ℕ → Option ℕ
+lumens word = number_within 0 1000000 word
+
 -- the number of a made room
 abbrev pub room_number : List ℕ → Option ℕ
 room_number word = number_within 1 40 word
@@ -90,11 +95,20 @@ abbrev pub chosen_set : List (List ℕ) → Option ℕ
 chosen_set words = if length words == 2 then Some 1 else (if length words == 3 then lamp_set (slice_index_or words 2 []) else None)
 
 abbrev pub summary_asked : List ℕ → Option ℕ → Option Question
-summary_asked name (Some set) = Some (question.File (file.Photometry (format_of name set)))
+summary_asked name (Some set) = Some (question.File (file.Photometry (format_of name set) photometry.Summary))
 summary_asked name None = None
 
 abbrev pub summary_of : List (List ℕ) → Option Question
 summary_of words = summary_asked (slice_index_or words 1 []) (chosen_set words)
+
+abbrev pub flux_asked : List ℕ → (set lumens : Option ℕ) → Option Question
+flux_asked name (Some set) (Some most) = Some (question.File (file.Photometry (format_of name set) (photometry.Flux most)))
+flux_asked name (Some set) None = None
+flux_asked name None most = None
+
+-- what `flux FILE SET LUMENS` asks
+abbrev pub flux_of : List (List ℕ) → Option Question
+flux_of words = flux_asked (slice_index_or words 1 []) (lamp_set (slice_index_or words 2 [])) (lumens (slice_index_or words 3 []))
 
 -- the first word is this one
 abbrev pub is_command : List ℕ → List (List ℕ) → Bool
@@ -123,13 +137,14 @@ abbrev pub sight_of : List (List ℕ) → Option Question
 sight_of words =
     sight_between (point_at (coordinate_at words 2) (coordinate_at words 3) (coordinate_at words 4)) (point_at (coordinate_at words 5) (coordinate_at words 6) (coordinate_at words 7))
 
--- what is asked of the file that the second word names; `read FILE` and `read FILE SET` besides
+-- what is asked of the file that the second word names
 abbrev pub asked_of : List (List ℕ) → Option Question
 asked_of words =
     if is_command (codes "read") words then summary_of words
     else (if length words == 2 then light_of words
     else (if length words == 3 then check_of words
-    else (if length words == 8 && is_command (codes "sight") words then sight_of words else None)))
+    else (if length words == 4 && is_command (codes "flux") words then flux_of words
+    else (if length words == 8 && is_command (codes "sight") words then sight_of words else None))))
 
 -- `trial N`
 abbrev pub is_trial : List (List ℕ) → Bool
@@ -151,4 +166,4 @@ abbrev pub claim_name : List (List ℕ) → List ℕ
 claim_name words = slice_index_or words 2 []
 
 abbrev pub usage_line : List ℕ
-usage_line = codes "usage: lux report ROOM | grid ROOM | read FILE [SET] | sight ROOM X Y Z X Y Z | certify ROOM | check ROOM CLAIM | trial N\n"
+usage_line = codes "usage: lux report ROOM | grid ROOM | read FILE [SET] | sight ROOM X Y Z X Y Z | certify ROOM | check ROOM CLAIM | trial N | flux FILE SET LUMENS\n"

@@ -19,6 +19,10 @@ use Rattle.lux_core.specs.declared.status.Status.{Status}
 use Rattle.lux_core.specs.declared.status.Status.TheVariants as status
 use Rattle.lux_core.specs.declared.words.Format.{Format}
 use Rattle.lux_core.specs.declared.words.Format.TheVariants.{Lm63, Eulumdat}
+use Rattle.lux_core.specs.declared.words.PhotometryQuestion.{PhotometryQuestion}
+use Rattle.lux_core.specs.declared.words.PhotometryQuestion.TheVariants.{Summary, Flux}
+use Rattle.zonal_flux.specs.Laws.{IsRightText}
+use Rattle.zonal_flux.specs.Printed.{IsFluxText}
 
 -- ---- by the grammar of its format
 
@@ -59,7 +63,7 @@ pub record IsFileRefusal (format : Format) (name bytes : List ℕ) (given : Stat
   pub refused : IsFaultOfFile format bytes fault
   pub text_is : text ≡ line (codes "refused " ++ name ++ codes " " ++ table_fault_text fault)
 
--- ---- the answer to `read`
+-- ---- the answers to `read` and to `flux`
 
 -- the text sums up the table of the file
 pub record IsFileSummary (format : Format) (bytes : List ℕ) (given : Status) (text : List ℕ) : Type 0 where
@@ -68,10 +72,28 @@ pub record IsFileSummary (format : Format) (bytes : List ℕ) (given : Status) (
   pub is : IsReadAs format bytes table
   pub summary : IsSummary table text
 
-abbrev pub IsPhotometryAnswer : Format → (name bytes : List ℕ) → Status → List ℕ → Type 0
-IsPhotometryAnswer format name bytes given text = IsFileSummary format bytes given text ⊎ IsFileRefusal format name bytes given text
+-- the text tells the flux of the exact table of the file, and whether the printed one reaches so many lumens
+pub record IsFileFlux (lumens : ℕ) (format : Format) (bytes : List ℕ) (given : Status) (text : List ℕ) : Type 0 where
+  pub status_is : given ≡ status.Done
+  pub table : Table
+  pub is : IsReadAs format bytes table
+  pub right : IsRightText table is.table lumens text
 
--- the file is accepted, and so it can be summed up
+-- what is asked of the file
+abbrev pub IsSaidOfFile : Format → PhotometryQuestion → (bytes : List ℕ) → Status → List ℕ → Type 0
+IsSaidOfFile format Summary bytes given text = IsFileSummary format bytes given text
+IsSaidOfFile format (Flux lumens) bytes given text = IsFileFlux lumens format bytes given text
+
+-- or why it is refused
+abbrev pub IsPhotometryAnswer : Format → PhotometryQuestion → (name bytes : List ℕ) → Status → List ℕ → Type 0
+IsPhotometryAnswer format asked name bytes given text = IsSaidOfFile format asked bytes given text ⊎ IsFileRefusal format name bytes given text
+
+-- what is asked of the program's table
+abbrev pub IsSaidOfTable : PhotometryQuestion → Table → List ℕ → Type 0
+IsSaidOfTable Summary table text = IsSummary table text
+IsSaidOfTable (Flux lumens) table text = IsFluxText table lumens text
+
+-- the file is accepted, and so it can be told of
 abbrev pub CanSum : Format → List ℕ → Type 0
 CanSum Lm63 bytes = (file : IesFile) × (file_of bytes ≡ Ok file)
 CanSum (Eulumdat set) bytes = (file : LdtFile) × (ldt (lines_of bytes) set ≡ Ok file)

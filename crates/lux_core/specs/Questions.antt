@@ -7,6 +7,8 @@ use Rattle.lux_core.specs.declared.words.Question.{Question}
 use Rattle.lux_core.specs.declared.words.Question.TheVariants as question
 use Rattle.lux_core.specs.declared.words.Format.{Format}
 use Rattle.lux_core.specs.declared.words.Format.TheVariants.{Lm63, Eulumdat}
+use Rattle.lux_core.specs.declared.words.PhotometryQuestion.{PhotometryQuestion}
+use Rattle.lux_core.specs.declared.words.PhotometryQuestion.TheVariants.{Summary, Flux}
 use Rattle.lux_core.specs.declared.words.RoomQuestion.{RoomQuestion}
 use Rattle.lux_core.specs.declared.words.RoomQuestion.TheVariants.{Light, Check, Sight}
 
@@ -25,10 +27,15 @@ abbrev pub IsFormat : Format → Type 0
 IsFormat Lm63 = Unit {0}
 IsFormat (Eulumdat set) = IsLampSet set
 
+-- a number of lumens that can be told
+abbrev pub IsWithinLumens : PhotometryQuestion → Type 0
+IsWithinLumens Summary = Unit {0}
+IsWithinLumens (Flux lumens) = lumens ≤ 1000000
+
 -- what is asked of a file
 abbrev pub IsFileQuestion : FileQuestion → Type 0
 IsFileQuestion (file.Room asked) = IsWithinReach asked
-IsFileQuestion (file.Photometry format) = IsFormat format
+IsFileQuestion (file.Photometry format asked) = IsFormat format × IsWithinLumens asked
 
 -- the number of a made room
 abbrev pub IsRoomNumber : ℕ → Type 0

@@ -14,6 +14,7 @@ use crate::scene::served_scene;
 use crate::status::Status;
 use crate::untaken::{LONGEST_FILE, reply_to_fault};
 use claim_file::{ClaimFault, read_claim};
+use fork_rows::Gate;
 use fx_base::Memory;
 use grid_report::laws::{shown_holds_light, unshown_has_cause};
 use lux_io::{Shelf, take_file};
@@ -21,6 +22,7 @@ use radiosity_solve::holds;
 use room_layout::Room;
 use scene_system::Scene;
 use std::alloc::Global;
+use std::thread::Threads;
 
 /// What is said of a claim by a scene of the room, whose rows aren't heavy.
 fn reply_to_claim(alloc: Global, room: &Room, scene: &Scene, bytes: &[u8]) -> Result<Reply, Memory>
@@ -85,11 +87,13 @@ fn reply_to_claim_file<S: Shelf>(
 
 /// Whether the room shows the claim in the file of this name, or why the room isn't served. The files of its lamps are read first, each
 /// once, in order, and the claim's file last.
-pub fn reply_of_check<S: Shelf>(
+pub fn reply_of_check<R: Threads + Sync, S: Shelf, G: Gate + Sync>(
+    rt: &R,
     alloc: Global,
     room: &Room,
     name: &str,
     shelf: &mut S,
+    gate: &G,
 ) -> Result<Reply, Memory>
     requires accepted { IsAccepted room.now }
     ensures files { S.files shelf.new ≡ S.files shelf.old }
@@ -98,7 +102,7 @@ pub fn reply_of_check<S: Shelf>(
         (S.faults shelf.old) (S.faults shelf.new) (S.taken shelf.new)) before room.now name.now r.status r.text.items) }
 {
     match read_lamp_files(alloc, room.files.as_slice(), shelf) {
-        Ok(photos) => match served_scene(alloc, room, photos.as_slice()) {
+        Ok(photos) => match served_scene(rt, alloc, room, photos.as_slice(), gate) {
             Ok(scene) => {
                 let reply = reply_to_claim_file(alloc, room, &scene, name, shelf)?;
                 Ok(reply)

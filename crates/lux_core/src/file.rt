@@ -9,18 +9,22 @@ use crate::reply::Reply;
 use crate::room::reply_to_room;
 use crate::untaken::{LONGEST_FILE, reply_to_fault};
 use crate::words::FileQuestion;
+use fork_rows::Gate;
 use fx_base::Memory;
 use lux_io::{Shelf, take_file};
 use std::alloc::Global;
+use std::thread::Threads;
 
 /// The answer to the bytes of a file.
-fn reply_to_bytes<S: Shelf>(
+fn reply_to_bytes<R: Threads + Sync, S: Shelf, G: Gate + Sync>(
+    rt: &R,
     alloc: Global,
     asked: FileQuestion,
     name: &str,
     claim: &str,
     bytes: &[u8],
     shelf: &mut S,
+    gate: &G,
 ) -> Result<Reply, Memory>
     requires asked { IsFileQuestion asked }
     requires few { length bytes.now ≤ 16777216 }
@@ -32,11 +36,11 @@ fn reply_to_bytes<S: Shelf>(
 {
     match asked {
         FileQuestion::Room(asked) => {
-            let reply = reply_to_room(alloc, asked, bytes, claim, shelf)?;
+            let reply = reply_to_room(rt, alloc, asked, bytes, claim, shelf, gate)?;
             Ok(reply)
         }
-        FileQuestion::Photometry(format) => {
-            let reply = reply_to_photometry(alloc, format, name, bytes)?;
+        FileQuestion::Photometry(format, asked) => {
+            let reply = reply_to_photometry(alloc, format, asked, name, bytes)?;
             Ok(reply)
         }
     }
@@ -44,12 +48,14 @@ fn reply_to_bytes<S: Shelf>(
 
 /// The answer to what is asked of the file of this name, made whole before anything is written. `claim` is the name of the file that
 /// `check` looks at.
-pub fn reply_to_file<S: Shelf>(
+pub fn reply_to_file<R: Threads + Sync, S: Shelf, G: Gate + Sync>(
+    rt: &R,
     alloc: Global,
     asked: FileQuestion,
     name: &str,
     claim: &str,
     shelf: &mut S,
+    gate: &G,
 ) -> Result<Reply, Memory>
     requires { IsFileQuestion asked }
     ensures files { S.files shelf.new ≡ S.files shelf.old }
@@ -59,7 +65,8 @@ pub fn reply_to_file<S: Shelf>(
 {
     match take_file(alloc, shelf, name, LONGEST_FILE) {
         Ok(bytes) => {
-            let reply = reply_to_bytes(alloc, asked, name, claim, bytes.as_slice(), shelf)?;
+            let read = bytes.as_slice();
+            let reply = reply_to_bytes(rt, alloc, asked, name, claim, read, shelf, gate)?;
             Ok(reply)
         }
         Err(fault) => {

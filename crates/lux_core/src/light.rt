@@ -18,6 +18,7 @@ use crate::spelling::reply_in;
 use crate::status::Status;
 use crate::words::{LightQuestion, Spelling};
 use claim_file::claim_text;
+use fork_rows::Gate;
 use fx_base::Memory;
 use grid_report::laws::{bounds_hold_light, report_is_right, values_are_points};
 use grid_report::{points, report};
@@ -28,6 +29,7 @@ use room_layout::Room;
 use scene_system::Scene;
 use scene_system::laws::{heavy_has_cause, none_is_shown_heavy};
 use std::alloc::Global;
+use std::thread::Threads;
 
 /// The report of a scene of the room, from bounds of the light of its patches.
 fn reply_of_report(
@@ -108,11 +110,13 @@ fn reply_of_bounds(
 }
 
 /// What is asked of a scene of the room, or its refusal for a heavy row.
-fn reply_of_scene(
+fn reply_of_scene<R: Threads + Sync, G: Gate + Sync>(
+    rt: &R,
     alloc: Global,
     asked: LightQuestion,
     room: &Room,
     scene: &Scene,
+    gate: &G,
 ) -> Result<Reply, Memory>
     requires accepted { IsAccepted room.now }
     requires formed { IsWellFormed (numbers scene.now) }
@@ -121,7 +125,7 @@ fn reply_of_scene(
         IsSceneOf tables room.now (numbers scene.now) → IfOk result (λ r. IsSaidByScene asked tables room.now r.status r.text.items) }
 {
     heavy_has_cause();
-    match solve(alloc, &scene.system) {
+    match solve(rt, alloc, &scene.system, gate) {
         Ok(bounds) => {
             let reply = reply_of_bounds(alloc, asked, room, scene, &bounds)?;
             Ok(reply)
@@ -135,19 +139,21 @@ fn reply_of_scene(
 }
 
 /// What is asked of a room by the tables of its lamps' files, or why it isn't served.
-fn reply_by_tables(
+fn reply_by_tables<R: Threads + Sync, G: Gate + Sync>(
+    rt: &R,
     alloc: Global,
     asked: LightQuestion,
     room: &Room,
     photos: &[PhotoTable],
+    gate: &G,
 ) -> Result<Reply, Memory>
     requires accepted { IsAccepted room.now }
     requires photos { length photos.now ≡ length room.now.files }
     ensures { (tables : List Table) → AreTablesOf photos.now tables → IfOk result (λ r. IsSaidByScene asked tables room.now r.status r.text.items) }
 {
-    match scene_of(alloc, room, photos) {
+    match scene_of(rt, alloc, room, photos, gate) {
         Ok(scene) => {
-            let reply = reply_of_scene(alloc, asked, room, &scene)?;
+            let reply = reply_of_scene(rt, alloc, asked, room, &scene, gate)?;
             Ok(reply)
         }
         Err(Halt::Said(reply)) => Ok(reply),
@@ -156,11 +162,13 @@ fn reply_by_tables(
 }
 
 /// What is asked of the light of a room, or why it isn't served. The files of its lamps are read first, each once, in order.
-pub fn reply_of_light<S: Shelf>(
+pub fn reply_of_light<R: Threads + Sync, S: Shelf, G: Gate + Sync>(
+    rt: &R,
     alloc: Global,
     asked: LightQuestion,
     room: &Room,
     shelf: &mut S,
+    gate: &G,
 ) -> Result<Reply, Memory>
     requires accepted { IsAccepted room.now }
     ensures files { S.files shelf.new ≡ S.files shelf.old }
@@ -170,7 +178,7 @@ pub fn reply_of_light<S: Shelf>(
 {
     match read_lamp_files(alloc, room.files.as_slice(), shelf) {
         Ok(photos) => {
-            let reply = reply_by_tables(alloc, asked, room, photos.as_slice())?;
+            let reply = reply_by_tables(rt, alloc, asked, room, photos.as_slice(), gate)?;
             Ok(reply)
         }
         Err(Halt::Said(reply)) => Ok(reply),

@@ -1,17 +1,21 @@
 //! Photometric files: their tables, and what is said of them.
 ghost use Rattle.std.specs.Prelude.{◌≡◌, ◌≤◌, ◌++◌, length, codes, IfOk, IfErr, string_bytes};
 ghost use Rattle.decimal_text.specs.Lines.{line};
-ghost use Rattle.lux_core.specs.Photometry.{IsFaultOfFile, IsNoWant, IsPhotometryAnswer, IsReadAs, table_fault_text};
-ghost use Rattle.lux_core.specs.Questions.{IsFormat};
+ghost use Rattle.lux_core.specs.Photometry.{IsFaultOfFile, IsNoWant, IsPhotometryAnswer, IsReadAs, IsSaidOfTable, table_fault_text};
+ghost use Rattle.lux_core.specs.Questions.{IsFormat, IsWithinLumens};
+ghost use Rattle.zonal_flux.specs.Printed.{IsFluxText};
 
 use crate::reply::Reply;
 use crate::status::Status;
-use crate::words::Format;
+use crate::words::{Format, PhotometryQuestion};
 use eulumdat_read::{LdtFault, read_ldt};
 use fx_base::Memory;
 use lm63_read::{IesFault, read_ies};
 use photo_table::{PhotoTable, summary_text};
+use series_enclose::TangentTable;
 use std::alloc::Global;
+use zonal_flux::laws::flux_text_is_right;
+use zonal_flux::{flux_text, zonal};
 
 /// Why a photometric file gives no table: the fault of its format's reader.
 #[derive(Clone, Copy, Debug, PartialEq, Eq)]
@@ -56,20 +60,56 @@ pub fn refused_file(alloc: Global, name: &str, fault: TableFault) -> Result<Stri
     Ok(text)
 }
 
-/// The summary of a photometric file, or why it is refused.
+/// The flux of a table, held against a number of lumens.
+fn text_of_flux(alloc: Global, table: &PhotoTable, lumens: u32) -> Result<String, Memory>
+    requires lumens { lumens ≤ 1000000 }
+    ensures { IfOk result (λ s. IsFluxText table.now lumens (string_bytes s)) }
+{
+    let sines = TangentTable::build(alloc)?;
+    let flux = zonal(&sines, table);
+    let text = flux_text(alloc, &flux, lumens)?;
+    Ok(text)
+}
+
+/// What is said of the luminaire of a table.
+fn text_of_table(
+    alloc: Global,
+    asked: PhotometryQuestion,
+    table: &PhotoTable,
+) -> Result<String, Memory>
+    requires lumens { IsWithinLumens asked }
+    ensures { IfOk result (λ s. IsSaidOfTable asked table.now (string_bytes s)) }
+{
+    match asked {
+        PhotometryQuestion::Summary => {
+            let text = summary_text(alloc, table)?;
+            Ok(text)
+        }
+        PhotometryQuestion::Flux(lumens) => {
+            let text = text_of_flux(alloc, table, lumens)?;
+            Ok(text)
+        }
+    }
+}
+
+/// What is asked of a photometric file, or why it is refused.
+#[tactic(auto, using(crate::proofs::Luminaires::said_of_file))]
 pub fn reply_to_photometry(
     alloc: Global,
     format: Format,
+    asked: PhotometryQuestion,
     name: &str,
     bytes: &[u8],
 ) -> Result<Reply, Memory>
     requires format { IsFormat format }
+    requires lumens { IsWithinLumens asked }
     requires few { length bytes.now ≤ 16777216 }
-    ensures { IfOk result (λ r. IsPhotometryAnswer format name.now bytes.now r.status r.text.items) }
+    ensures { IfOk result (λ r. IsPhotometryAnswer format asked name.now bytes.now r.status r.text.items) }
 {
+    flux_text_is_right();
     match read_table(alloc, format, bytes) {
         Ok(table) => {
-            let text = summary_text(alloc, &table)?;
+            let text = text_of_table(alloc, asked, &table)?;
             Ok(Reply::new(Status::Done, text))
         }
         Err(fault) => {

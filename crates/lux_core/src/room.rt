@@ -14,11 +14,13 @@ use crate::light::reply_of_light;
 use crate::reply::Reply;
 use crate::status::Status;
 use crate::words::RoomQuestion;
+use fork_rows::Gate;
 use fx_base::Memory;
 use lux_io::Shelf;
 use room_layout::{Point, Room, RoomFault, read_room};
 use sight_line::blocked_by;
 use std::alloc::Global;
+use std::thread::Threads;
 
 /// The line of a layout that is refused.
 pub fn refused_layout(alloc: Global, fault: RoomFault) -> Result<Reply, Memory>
@@ -44,12 +46,14 @@ fn reply_of_sight(alloc: Global, room: &Room, from: Point, to: Point) -> Result<
 }
 
 /// The answer to a question on an accepted room, whose file was the last one taken from the shelf.
-fn reply_of_room<S: Shelf>(
+fn reply_of_room<R: Threads + Sync, S: Shelf, G: Gate + Sync>(
+    rt: &R,
     alloc: Global,
     asked: RoomQuestion,
     room: &Room,
     claim: &str,
     shelf: &mut S,
+    gate: &G,
 ) -> Result<Reply, Memory>
     requires asked { IsWithinReach asked }
     requires accepted { IsAccepted room.now }
@@ -60,11 +64,11 @@ fn reply_of_room<S: Shelf>(
 {
     match asked {
         RoomQuestion::Light(asked) => {
-            let reply = reply_of_light(alloc, asked, room, shelf)?;
+            let reply = reply_of_light(rt, alloc, asked, room, shelf, gate)?;
             Ok(reply)
         }
         RoomQuestion::Check => {
-            let reply = reply_of_check(alloc, room, claim, shelf)?;
+            let reply = reply_of_check(rt, alloc, room, claim, shelf, gate)?;
             Ok(reply)
         }
         RoomQuestion::Sight(from, to) => {
@@ -76,12 +80,14 @@ fn reply_of_room<S: Shelf>(
 
 /// The answer to the bytes of a room file, which were the last ones taken from the shelf. `claim` is the name of the file that `check`
 /// looks at.
-pub fn reply_to_room<S: Shelf>(
+pub fn reply_to_room<R: Threads + Sync, S: Shelf, G: Gate + Sync>(
+    rt: &R,
     alloc: Global,
     asked: RoomQuestion,
     bytes: &[u8],
     claim: &str,
     shelf: &mut S,
+    gate: &G,
 ) -> Result<Reply, Memory>
     requires asked { IsWithinReach asked }
     requires taken { S.taken shelf.old ≡ length bytes.now }
@@ -92,7 +98,7 @@ pub fn reply_to_room<S: Shelf>(
 {
     match read_room(alloc, bytes) {
         Ok(room) => {
-            let reply = reply_of_room(alloc, asked, &room, claim, shelf)?;
+            let reply = reply_of_room(rt, alloc, asked, &room, claim, shelf, gate)?;
             Ok(reply)
         }
         Err(RoomFault::Memory) => Err(Memory),

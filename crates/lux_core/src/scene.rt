@@ -14,6 +14,7 @@ ghost use Rattle.lux_core.specs.LightAnswers.{scene_fault_text, HasNoScene, IsNo
 
 use crate::reply::{Halt, Reply};
 use decimal_text::Thousandths;
+use fork_rows::Gate;
 use fx_base::Memory;
 use interval_system::Heavy;
 use photo_table::PhotoTable;
@@ -22,6 +23,7 @@ use scene_system::laws::{heavy_has_cause, none_is_shown_heavy, total_is_of_table
 use scene_system::{Scene, SceneFault, assemble};
 use series_enclose::TangentTable;
 use std::alloc::Global;
+use std::thread::Threads;
 
 /// The line of a room that has no scene.
 pub fn refused_scene(alloc: Global, fault: SceneFault) -> Result<String, Memory>
@@ -56,7 +58,13 @@ pub fn refused_row(alloc: Global, heavy: Heavy) -> Result<String, Memory>
 }
 
 /// The scene of a room by the tables of its lamps' files, or why it has none.
-pub fn scene_of(alloc: Global, room: &Room, photos: &[PhotoTable]) -> Result<Scene, Halt>
+pub fn scene_of<R: Threads + Sync, G: Gate + Sync>(
+    rt: &R,
+    alloc: Global,
+    room: &Room,
+    photos: &[PhotoTable],
+    gate: &G,
+) -> Result<Scene, Halt>
     requires accepted { IsAccepted room.now }
     requires photos { length photos.now ≡ length room.now.files }
     ensures formed { IfOk result (λ s. IsWellFormed (numbers s)) }
@@ -68,7 +76,7 @@ pub fn scene_of(alloc: Global, room: &Room, photos: &[PhotoTable]) -> Result<Sce
 {
     total_is_of_tables();
     let sines = TangentTable::build(alloc)?;
-    match assemble(alloc, &sines, room, photos) {
+    match assemble(rt, alloc, &sines, room, photos, gate) {
         Ok(scene) => Ok(scene),
         Err(fault) => {
             let text = refused_scene(alloc, fault)?;
@@ -78,7 +86,13 @@ pub fn scene_of(alloc: Global, room: &Room, photos: &[PhotoTable]) -> Result<Sce
 }
 
 /// The scene of a room that is served, none of whose rows is heavy, or why the room isn't served.
-pub fn served_scene(alloc: Global, room: &Room, photos: &[PhotoTable]) -> Result<Scene, Halt>
+pub fn served_scene<R: Threads + Sync, G: Gate + Sync>(
+    rt: &R,
+    alloc: Global,
+    room: &Room,
+    photos: &[PhotoTable],
+    gate: &G,
+) -> Result<Scene, Halt>
     requires accepted { IsAccepted room.now }
     requires photos { length photos.now ≡ length room.now.files }
     ensures formed { IfOk result (λ s. IsWellFormed (numbers s)) }
@@ -91,7 +105,7 @@ pub fn served_scene(alloc: Global, room: &Room, photos: &[PhotoTable]) -> Result
 {
     heavy_has_cause();
     none_is_shown_heavy();
-    let scene = scene_of(alloc, room, photos)?;
+    let scene = scene_of(rt, alloc, room, photos, gate)?;
     let heavy = scene.system.heavy_row();
     match heavy {
         None => Ok(scene),

@@ -1,27 +1,21 @@
 //! Whole runs over the files and the output that stand in for the real ones.
-mod claims;
-mod faults;
 mod grids;
-mod lamp_files;
-mod lamps;
+mod halves;
 mod limits;
-mod luminaires;
 mod made_rooms;
-mod office;
 mod panel;
-mod reads;
 mod refusals;
 mod reports;
-mod rooms;
 mod sights;
 mod trials;
-mod untold;
 
 use crate::{Status, lux};
+use fork_rows::OpenGate;
 use lux_io::{MemShelf, MemSink, Shelf};
 use std::alloc::Global;
 use std::process::Abort;
 use std::test::Fail;
+use std::thread::Threads;
 
 /// How the files and the output behave: which reads fail, and how many bytes the output takes.
 #[derive(Clone, Copy)]
@@ -38,7 +32,7 @@ const CALM: World<'static> = World {
 
 /// A run of the words over a shelf with one room file, `room.toml`: it ends with this status and has written this text.
 fn run(
-    rt: &impl Abort,
+    rt: &(impl Abort + Threads + Sync),
     alloc: Global,
     words: &[&str],
     room: &str,
@@ -70,7 +64,7 @@ fn shelf_of(alloc: Global, room: &str, failing: &[u64]) -> Result<MemShelf, Fail
 
 /// A run of the words over a shelf, with an output that takes so many bytes: it ends with this status and has written these.
 fn run_over<S: Shelf>(
-    rt: &impl Abort,
+    rt: &(impl Abort + Threads + Sync),
     alloc: Global,
     words: &[&str],
     shelf: &mut S,
@@ -83,7 +77,7 @@ fn run_over<S: Shelf>(
         given.push(String::from_str(alloc, word)?)?;
     }
     let mut out = MemSink::new(alloc, capacity, &[]).ok().ok_or("memory")?;
-    let answer = lux(alloc, given.as_slice(), shelf, &mut out);
+    let answer = lux(rt, alloc, given.as_slice(), shelf, &mut out, &OpenGate);
     assert!(rt;
         answer == status,
         "{answer:?} with room for {capacity} bytes"

@@ -11,9 +11,11 @@ use crate::reply::Reply;
 use crate::status::Status;
 use crate::trial::reply_to_trial;
 use crate::words::{Question, USAGE, claim_name, file_name, question_of};
+use fork_rows::Gate;
 use fx_base::Memory;
 use lux_io::{Shelf, Sink, put_all};
 use std::alloc::Global;
+use std::thread::Threads;
 
 /// Writes a whole text; the status is the one given, or that the sink failed.
 fn written<O: Sink>(out: &mut O, status: Status, text: &[u8]) -> Status
@@ -29,11 +31,13 @@ fn written<O: Sink>(out: &mut O, status: Status, text: &[u8]) -> Status
 }
 
 /// The answer to what the words ask, made whole before anything is written.
-fn reply_to<S: Shelf>(
+fn reply_to<R: Threads + Sync, S: Shelf, G: Gate + Sync>(
+    rt: &R,
     alloc: Global,
     asked: Question,
     words: &[String],
     shelf: &mut S,
+    gate: &G,
 ) -> Result<Reply, Memory>
     requires asked { IsInRange asked }
     requires two { 2 ≤ length words.now }
@@ -44,11 +48,13 @@ fn reply_to<S: Shelf>(
 {
     match asked {
         Question::File(asked) => {
-            let reply = reply_to_file(alloc, asked, file_name(words), claim_name(words), shelf)?;
+            let name = file_name(words);
+            let claim = claim_name(words);
+            let reply = reply_to_file(rt, alloc, asked, name, claim, shelf, gate)?;
             Ok(reply)
         }
         Question::Trial(number) => {
-            let reply = reply_to_trial(alloc, number, shelf)?;
+            let reply = reply_to_trial(rt, alloc, number, shelf, gate)?;
             Ok(reply)
         }
     }
@@ -63,7 +69,14 @@ fn reply_to<S: Shelf>(
 ///
 /// The text is made whole before its first byte is written, and what it says is proved: see the definitions `IsAnswer` and
 /// `IsRight`.
-pub fn lux<S: Shelf, O: Sink>(alloc: Global, words: &[String], shelf: &mut S, out: &mut O) -> Status
+pub fn lux<R: Threads + Sync, S: Shelf, O: Sink, G: Gate + Sync>(
+    rt: &R,
+    alloc: Global,
+    words: &[String],
+    shelf: &mut S,
+    out: &mut O,
+    gate: &G,
+) -> Status
     // The text that was written is the answer of this status, with its cause.
     ensures answered { result ≢ Status.WriteFault → result ≢ Status.Memory →
         (text : List ℕ) × (O.written out.new ≡ with_bytes (O.written out.old) text) × IsAnswer (map string_bytes words.now)
@@ -90,7 +103,7 @@ pub fn lux<S: Shelf, O: Sink>(alloc: Global, words: &[String], shelf: &mut S, ou
     let Some(asked) = question_of(words) else {
         return written(out, Status::Usage, USAGE.as_bytes());
     };
-    let Ok(reply) = reply_to(alloc, asked, words, shelf) else {
+    let Ok(reply) = reply_to(rt, alloc, asked, words, shelf, gate) else {
         return Status::Memory;
     };
     written(out, reply.status, reply.text.as_slice())

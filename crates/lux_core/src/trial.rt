@@ -8,14 +8,22 @@ use crate::light::reply_of_light;
 use crate::reply::Reply;
 use crate::room::refused_layout;
 use crate::words::{LightQuestion, Spelling};
+use fork_rows::Gate;
 use fx_base::Memory;
 use lux_io::Shelf;
 use room_layout::{RoomFault, read_room};
 use room_make::make_room;
 use std::alloc::Global;
+use std::thread::Threads;
 
 /// The summary of the room that a number makes, read from its layout as any other room is.
-pub fn reply_to_trial<S: Shelf>(alloc: Global, number: u32, shelf: &mut S) -> Result<Reply, Memory>
+pub fn reply_to_trial<R: Threads + Sync, S: Shelf, G: Gate + Sync>(
+    rt: &R,
+    alloc: Global,
+    number: u32,
+    shelf: &mut S,
+    gate: &G,
+) -> Result<Reply, Memory>
     requires number { IsRoomNumber number }
     ensures files { S.files shelf.new ≡ S.files shelf.old }
     ensures answered { IfOk result (λ r. IsTrialAnswer number
@@ -26,7 +34,7 @@ pub fn reply_to_trial<S: Shelf>(alloc: Global, number: u32, shelf: &mut S) -> Re
     match read_room(alloc, bytes.as_slice()) {
         Ok(room) => {
             let asked = LightQuestion::Report(Spelling::Summary(number));
-            let reply = reply_of_light(alloc, asked, &room, shelf)?;
+            let reply = reply_of_light(rt, alloc, asked, &room, shelf, gate)?;
             Ok(reply)
         }
         Err(RoomFault::Memory) => Err(Memory),

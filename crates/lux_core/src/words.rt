@@ -4,7 +4,7 @@ ghost use Rattle.std.specs.List.{list_all};
 ghost use Rattle.std.specs.Option.{option_map};
 ghost use Rattle.room_layout.specs.Place.{place_of_size, point_of};
 ghost use Rattle.sight_line.specs.Reach.{IsInReach};
-ghost use Rattle.lux_core.specs.Commands.{asked_of, check_of, chosen_set, claim_name, coordinate, file_name, format_of, is_digit, is_number, is_plain, is_trial, light_of, names_a_file, names_file, names_lm63, number_after, number_within, point_at, question_of, sight_of, summary_of, trial_of};
+ghost use Rattle.lux_core.specs.Commands.{asked_of, check_of, chosen_set, claim_name, coordinate, file_name, flux_of, format_of, is_digit, is_number, is_plain, is_trial, light_of, names_a_file, names_file, names_lm63, number_after, number_within, point_at, question_of, sight_of, summary_of, trial_of};
 ghost use Rattle.lux_core.specs.Questions.{IsFormat, IsInRange, IsLampSet};
 
 use room_layout::Point;
@@ -19,6 +19,12 @@ const GREATEST_COORDINATE: u32 = 100_000;
 
 /// The greatest number of a made room.
 const LAST_ROOM: u32 = 40;
+
+/// The greatest number of lumens that a flux is held against.
+const MOST_LUMENS: u32 = 1_000_000;
+
+/// Above every number that a word may say.
+const TOO_LARGE: u32 = 100_000_000;
 
 /// In which form a report is written.
 #[derive(Clone, Copy, Debug, PartialEq, Eq)]
@@ -60,13 +66,22 @@ pub enum Format {
     Eulumdat(u32),
 }
 
+/// What is asked of a photometric file.
+#[derive(Clone, Copy, Debug, PartialEq, Eq)]
+pub enum PhotometryQuestion {
+    /// A summary of its table.
+    Summary,
+    /// The flux of its table, held against this number of lumens, from 0 to 1,000,000.
+    Flux(u32),
+}
+
 /// What is asked of a file.
 #[derive(Clone, Copy, Debug, PartialEq, Eq)]
 pub enum FileQuestion {
     /// Something of the room whose layout it is.
     Room(RoomQuestion),
-    /// The summary of its photometry.
-    Photometry(Format),
+    /// Something of the luminaire whose photometry it is.
+    Photometry(Format, PhotometryQuestion),
 }
 
 /// What is asked.
@@ -116,21 +131,21 @@ fn is_number(bytes: &[u8]) -> bool
     are_digits(bytes)
 }
 
-/// The number that digits say, and a million where it is more.
+/// The number that digits say, and 100,000,000 where it is more.
 fn number_of(bytes: &[u8]) -> u32
     requires { list_all is_digit bytes.now ≡ Rattle.std.specs.Prelude.true }
-    ensures { result ≡ min (number_after 0 bytes.now) 1000000 }
+    ensures { result ≡ min (number_after 0 bytes.now) 100000000 }
 {
     let mut number = 0u32;
     for byte in bytes {
-        number = (number * 10 + (*byte - 48) as u32).min(1_000_000);
+        number = (number * 10 + (*byte - 48) as u32).min(TOO_LARGE);
     }
     number
 }
 
 /// The number that a word says, where it lies from the least to the most.
 fn number_within(least: u32, most: u32, word: &str) -> Option<u32>
-    requires { most < 1000000 }
+    requires { most < 100000000 }
     ensures number { result ≡ number_within least most word.now }
     ensures within { IfSome result (λ n. (least ≤ n) × (n ≤ most)) }
 {
@@ -219,7 +234,20 @@ fn summary_of(words: &[String]) -> Option<Question>
     ensures within { IfSome result IsInRange }
 {
     let set = chosen_set(words)?;
-    Some(Question::File(FileQuestion::Photometry(format_of(words[1].as_str(), set))))
+    let format = format_of(words[1].as_str(), set);
+    Some(Question::File(FileQuestion::Photometry(format, PhotometryQuestion::Summary)))
+}
+
+/// What `flux FILE SET LUMENS` asks.
+fn flux_of(words: &[String]) -> Option<Question>
+    requires { length words.now ≡ 4 }
+    ensures asked { result ≡ flux_of (map string_bytes words.now) }
+    ensures within { IfSome result IsInRange }
+{
+    let set = number_within(1, LAST_SET, words[2].as_str())?;
+    let lumens = number_within(0, MOST_LUMENS, words[3].as_str())?;
+    let format = format_of(words[1].as_str(), set);
+    Some(Question::File(FileQuestion::Photometry(format, PhotometryQuestion::Flux(lumens))))
 }
 
 /// Whether the second word names a file.
@@ -275,6 +303,9 @@ fn asked_of(words: &[String]) -> Option<Question>
     }
     if words.len() == 3 {
         return check_of(words);
+    }
+    if words.len() == 4 && words[0].as_str() == "flux" {
+        return flux_of(words);
     }
     if words.len() == 8 && words[0].as_str() == "sight" {
         return sight_of(words);
@@ -335,4 +366,4 @@ pub fn claim_name(words: &[String]) -> &str
 
 /// The line that is written where the words are no command.
 pub const USAGE: &str =
-    "usage: lux report ROOM | grid ROOM | read FILE [SET] | sight ROOM X Y Z X Y Z | certify ROOM | check ROOM CLAIM | trial N\n";
+    "usage: lux report ROOM | grid ROOM | read FILE [SET] | sight ROOM X Y Z X Y Z | certify ROOM | check ROOM CLAIM | trial N | flux FILE SET LUMENS\n";

@@ -4,6 +4,7 @@ use crate::Status;
 use std::alloc::Global;
 use std::process::Abort;
 use std::test::Fail;
+use std::thread::Threads;
 
 /// 5000 / 9 = 555.5.. lux at the one point.
 const BRIGHT: &str =
@@ -26,7 +27,7 @@ const DARK_TEXT: &str = "point 0 0 0.00 0.00\naverage 0.00 0.00\nuniformity none
 
 /// The report of a room that asks for these limits: what is written after the text of the room without them, and the status.
 fn judged(
-    rt: &impl Abort,
+    rt: &(impl Abort + Threads + Sync),
     alloc: Global,
     room: &str,
     text: &str,

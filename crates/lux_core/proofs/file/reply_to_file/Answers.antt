@@ -15,5 +15,5 @@ returns-in_ok-reply-in-Ok-clause-answered g c =
     let no_fault : sf.faults c.take_file.new.shelf ≡ sf.faults c.args.shelf.now = taken.faults.only (λ e. cc) in
     let few : length bytes.items ≤ longest_file = omega (arith, taken.whole, bytes.ok.0) in
     let said : IsBytesAnswer c.args.asked r c.args.name.now c.args.claim.now bytes.items reply.status reply.text.items =
-    rw (taken.files, no_absence, no_fault, c.as_slice.ensures.value) at c.in_ok-reply-in-Ok.ensures.answered in
+    rw (taken.files, no_absence, no_fault, c.as_slice-read.ensures.value) at c.in_ok-reply-in-Ok.ensures.answered in
     inr (record { bytes = bytes.items; read = record { told = taken.told; few = few }; said = said })

@@ -6,7 +6,7 @@ use Rattle.lux_core.proofs.LampLists.{shining_by}
 use Rattle.lux_core.proofs.scene.served_scene.Goals as goal
 
 pub returns-in-None-clause-served : goal.returns-in-None-clause-served
-returns-in-None-clause-served c = λ tables are.
+returns-in-None-clause-served g c = λ tables are.
     let r = c.requires in
     let s = c.in_ok-scene.ensures in
     record {
@@ -16,7 +16,7 @@ returns-in-None-clause-served c = λ tables are.
     }
 
 pub returns-in_ok-text-in-Some-clause-not_served : goal.returns-in_ok-text-in-Some-clause-not_served
-returns-in_ok-text-in-Some-clause-not_served c = λ tables are.
+returns-in_ok-text-in-Some-clause-not_served g c = λ tables are.
     let r = c.requires in
     let s = c.in_ok-scene.ensures in
     let heavy = c.in-Some.heavy in

@@ -1,11 +1,13 @@
 //! Reports of rooms over a shelf with photometric files: the run of one, how its text is compared, and the pieces of a room file. Where
 //! bars stand between numbers, each of them is an admissible printed end.
 use super::shelf_of;
-use crate::{Status, lux};
+use fork_rows::OpenGate;
+use lux_core::{Status, lux};
 use lux_io::{MemShelf, MemSink, Shelf};
 use std::alloc::Global;
 use std::process::Abort;
 use std::test::Fail;
+use std::thread::Threads;
 
 /// Whether one of the texts between bars is this.
 fn is_one_of(word: &str, wanted: &str) -> bool {
@@ -34,7 +36,7 @@ fn line_is_among(line: &str, wanted: &str) -> bool {
 }
 
 /// Whether each word of a text is one of those that stand at its place.
-fn is_among(text: &str, wanted: &str) -> bool {
+pub fn is_among(text: &str, wanted: &str) -> bool {
     let mut lines = wanted.split('\n');
     for line in text.split('\n') {
         match lines.next() {
@@ -65,7 +67,7 @@ pub fn shelf_with(
 
 /// A report of the room `room.toml` over this shelf: it ends with this status and has written a text of these words.
 pub fn report_over<S: Shelf>(
-    rt: &impl Abort,
+    rt: &(impl Abort + Threads + Sync),
     alloc: Global,
     shelf: &mut S,
     status: Status,
@@ -76,7 +78,7 @@ pub fn report_over<S: Shelf>(
         words.push(String::from_str(alloc, word)?)?;
     }
     let mut out = MemSink::new(alloc, 4000, &[]).ok().ok_or("memory")?;
-    let answer = lux(alloc, words.as_slice(), shelf, &mut out);
+    let answer = lux(rt, alloc, words.as_slice(), shelf, &mut out, &OpenGate);
     let written = str::from_utf8(out.bytes()).ok().ok_or("text")?;
     assert!(rt; answer == status, "{answer:?}: {written}");
     assert!(rt; is_among(written, text), "{written}");
@@ -85,7 +87,7 @@ pub fn report_over<S: Shelf>(
 
 /// The same over a shelf with the room and these files, whose calls with these numbers fail.
 pub fn report(
-    rt: &impl Abort,
+    rt: &(impl Abort + Threads + Sync),
     alloc: Global,
     room: &str,
     files: &[(&str, &str)],

@@ -3,11 +3,13 @@ use super::luminaires::OFFICE;
 use super::office::OFFICE_ROOM;
 use super::rooms::{CUBE, FLOOR, GREY, MIDDLE, shelf_with};
 use super::run_over;
-use crate::{Status, lux};
+use fork_rows::OpenGate;
+use lux_core::{Status, lux};
 use lux_io::{MemShelf, MemSink, Shelf};
 use std::alloc::{AllocError, Global};
 use std::process::Abort;
 use std::test::Fail;
+use std::thread::Threads;
 
 /// A claim with the same two ticks for each of six patches.
 fn same_for_six(alloc: Global, lower: &str, upper: &str) -> Result<String, AllocError> {
@@ -21,7 +23,7 @@ fn same_for_six(alloc: Global, lower: &str, upper: &str) -> Result<String, Alloc
 
 /// A check of a claim on the cube: it ends with this status and has written this line.
 fn checked(
-    rt: &impl Abort,
+    rt: &(impl Abort + Threads + Sync),
     alloc: Global,
     claim: &str,
     status: Status,
@@ -136,13 +138,17 @@ fn a_room_is_refused_before_its_claim_is_looked_at(rt: HostRuntime) -> Result<()
 }
 
 /// The claim that is written of the room on the shelf.
-fn certified(rt: &impl Abort, alloc: Global, shelf: &mut MemShelf) -> Result<String, Fail> {
+fn certified(
+    rt: &(impl Abort + Threads + Sync),
+    alloc: Global,
+    shelf: &mut MemShelf,
+) -> Result<String, Fail> {
     let mut words = Vec::new(alloc);
     for word in ["certify", "room.toml"] {
         words.push(String::from_str(alloc, word)?)?;
     }
     let mut out = MemSink::new(alloc, 100_000, &[]).ok().ok_or("memory")?;
-    let answer = lux(alloc, words.as_slice(), shelf, &mut out);
+    let answer = lux(rt, alloc, words.as_slice(), shelf, &mut out, &OpenGate);
     assert!(rt; answer == Status::Done, "{answer:?}");
     let text = str::from_utf8(out.bytes()).ok().ok_or("text")?;
     Ok(String::from_str(alloc, text)?)

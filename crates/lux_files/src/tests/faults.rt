@@ -1,7 +1,7 @@
 //! Files that can't be read or aren't told, and outputs that take no more.
 use super::untold::Untold;
 use super::{World, run, run_over, shelf_of};
-use crate::Status;
+use lux_core::Status;
 use std::test::Fail;
 
 const REPORT: [&str; 2] = ["report", "room.toml"];

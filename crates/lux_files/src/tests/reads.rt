@@ -1,14 +1,15 @@
 //! Summaries of photometric files, and files that are refused. The numbers are worked out by hand: an intensity is the value times the
 //! factors of its file, and the refusals are those of the two grammars.
 use super::{CALM, run_over};
-use crate::Status;
+use lux_core::Status;
 use lux_io::MemShelf;
 use std::alloc::Global;
 use std::process::Abort;
 use std::test::Fail;
+use std::thread::Threads;
 
 const USAGE: &[u8] =
-    b"usage: lux report ROOM | grid ROOM | read FILE [SET] | sight ROOM X Y Z X Y Z | certify ROOM | check ROOM CLAIM | trial N\n";
+    b"usage: lux report ROOM | grid ROOM | read FILE [SET] | sight ROOM X Y Z X Y Z | certify ROOM | check ROOM CLAIM | trial N | flux FILE SET LUMENS\n";
 
 /// An EULUMDAT file of one half-plane, 100 cd per 1000 lm in all directions and 2000 lm: lines before its angles, with these lines in
 /// place of 3, 4, 24, 28 and 29.
@@ -35,7 +36,7 @@ fn even_ldt(
 
 /// A run over a shelf with one file.
 fn read(
-    rt: &impl Abort,
+    rt: &(impl Abort + Threads + Sync),
     alloc: Global,
     words: &[&str],
     name: &str,
@@ -83,7 +84,12 @@ fn an_eulumdat_file_is_summed_up(rt: HostRuntime) -> Result<(), Fail> {
 }
 
 /// `read a.ldt` of a file with these lines is refused with this text.
-fn is_refused(rt: &impl Abort, alloc: Global, file: &str, text: &str) -> Result<(), Fail> {
+fn is_refused(
+    rt: &(impl Abort + Threads + Sync),
+    alloc: Global,
+    file: &str,
+    text: &str,
+) -> Result<(), Fail> {
     read(
         rt,
         alloc,

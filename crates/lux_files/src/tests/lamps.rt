@@ -8,7 +8,7 @@ use super::rooms::{
     CUBE, CUBE_TEXT, DARK_TEXT, EVEN_LAMP, FLOOR, GREY, MIDDLE, report, report_over, shelf_with,
 };
 use super::untold::Untold;
-use crate::Status;
+use lux_core::Status;
 use std::test::Fail;
 
 #[test]

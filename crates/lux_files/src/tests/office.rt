@@ -1,7 +1,7 @@
 //! The report of an office. Where bars stand between numbers, each of them is an admissible printed end.
 use super::luminaires::OFFICE;
 use super::rooms::report;
-use crate::Status;
+use lux_core::Status;
 use std::test::Fail;
 
 /// An office of 7.2 by 5.4 m with eight desks, two cupboards and nine luminaires of four points each: 726 patches.

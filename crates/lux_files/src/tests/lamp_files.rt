@@ -1,7 +1,7 @@
 //! The photometric files of a room's lamps: how often each is read, and the refusals and faults in which it is named.
 use super::luminaires::{EVEN, SIXTEEN_SETS};
 use super::rooms::{CUBE, EVEN_LAMP, FLOOR, GREY, MIDDLE, TWICE_TEXT, report};
-use crate::Status;
+use lux_core::Status;
 use std::test::Fail;
 
 #[test]
