@@ -14,10 +14,13 @@ use Rattle.room_layout.specs.declared.room.Lamp.{Lamp}
 use Rattle.room_layout.specs.declared.room.Shine.{Shine}
 use Rattle.room_layout.specs.declared.room.Shine.TheVariants.{Even, File}
 use Rattle.room_layout.specs.declared.room.FileUse.{FileUse}
+use Rattle.room_layout.specs.declared.geometry.Face.TheVariants.{Down}
+use Rattle.room_layout.specs.declared.parts.Shell.{Shell}
 use Rattle.room_layout.specs.declared.parts.Fitting.{Fitting}
 use Rattle.room_layout.specs.declared.parts.Lit.{Lit}
 use Rattle.room_layout.specs.Checks.{◌>>=◌, demand, spot, required, optional, where_given, kind, number, numbers, is_name, name_text, table_with}
-use Rattle.room_layout.specs.Layout.{fits_in, has_margin, is_same_use, placed_at, placed, shine_of, is_lamp_inside, lamp_keys, lamp_from, Source, source_of, fitting_from, fitting_of, checked_lamp, lamp_of, lamps_from}
+use Rattle.room_layout.specs.Layout.{longest_edge, fits_in, has_margin, has_margins, is_same_use, placed_at, placed, shine_of, is_lamp_inside, lamp_keys, aim_text, lamp_from, Source, source_of, fitting_from, fitting_of, checked_lamp, lamp_of, lamps_from}
+use Rattle.room_layout.specs.Across.{extent_of}
 use Rattle.room_layout.specs.Accepted.{IsBetween, HasMargin, IsShine, IsLampIn, IsFileUse}
 use Rattle.room_layout.proofs.Accepts.{both, le_from, candela_accepted}
 use Rattle.room_layout.proofs.Ranges.{bind_ok, ok_same, demand_ok, optional_number_between, optional_numbers_between, no_size_between, no_split_between}
@@ -70,12 +73,14 @@ margin_from at size edge e = let (below, above) = and_parts (nat_le size (2 * at
 
 lamp_inside : (room : Size) (files : ℕ) (l : Lamp) → is_lamp_inside l room ≡ true → IsShine files l.shine → l.turn ≤ 359 → l.maintenance ≤ 1000 → l.size_x ≤ 5000 → l.size_y ≤ 5000 → IsBetween 1 8 l.split_x → IsBetween 1 8 l.split_y → IsLampIn room files l
 lamp_inside room files l inside shine turn maintenance sx sy px py =
-    let (fits, mx, my) = both (fits_in l.at room) (has_margin l.at.x l.size_x room.x) (has_margin l.at.y l.size_y room.y) inside in
+    let extent = extent_of l in
+    let (fits, margins) = and_parts (fits_in l.at room) (has_margins l.at extent room) inside in
+    let (mx, my, mz) = both (has_margin l.at.x extent.x room.x) (has_margin l.at.y extent.y room.y) (has_margin l.at.z extent.z room.z) margins in
     let (ix, iy, iz) = both (nat_le l.at.x room.x) (nat_le l.at.y room.y) (nat_le l.at.z room.z) fits in
     record {
       x = (le_from _ _ ix, margin_from _ _ _ mx);
       y = (le_from _ _ iy, margin_from _ _ _ my);
-      z = le_from _ _ iz;
+      z = (le_from _ _ iz, margin_from _ _ _ mz);
       shine = shine;
       turn = turn;
       maintenance = maintenance;
@@ -85,10 +90,10 @@ lamp_inside room files l inside shine turn maintenance sx sy px py =
       split_y = py;
     }
 
-pub checked_accepted : (room : Size) (i : ℕ) (l : Lamp) (files : List FileUse) (r : Lamp × List FileUse) → checked_lamp room i l files ≡ Ok r → ((l, files) ≡ r) × (is_lamp_inside l room ≡ true) × (length files ≤ 16)
+pub checked_accepted : (room : Shell) (i : ℕ) (l : Lamp) (files : List FileUse) (r : Lamp × List FileUse) → checked_lamp room i l files ≡ Ok r → ((l, files) ≡ r) × (is_lamp_inside l room.size ≡ true) × (length files ≤ 16)
 unfolding checked_lamp
 checked_accepted room i l files r e =
-    let (u, inside, e1) = bind_ok (demand (is_lamp_inside l room) (fault.Outside (spot key.Lamp i))) _ r e in
+    let (u, inside, e1) = bind_ok (demand (is_lamp_inside l room.size) (fault.Outside (spot key.Lamp i))) _ r e in
     let (v, few, e2) = bind_ok (demand (nat_le (length files) 16) (fault.TooMany (spot key.LampFile i))) _ r e1 in
     (ok_same _ r e2, demand_ok _ _ u inside, le_from _ _ (demand_ok _ _ v few))
 
@@ -127,7 +132,8 @@ fitting_accepted i lamp f e =
     let (maintenance, maintenance_is, e2) = bind_ok (optional 1000 (spot key.LampMaintenance i) (number 0 1000) (get_member (codes "maintenance") lamp)) _ f e1 in
     let (size, size_is, e3) = bind_ok (optional (0 ∷ 0 ∷ []) (spot key.LampSize i) (numbers 2 0 5000) (get_member (codes "size") lamp)) _ f e2 in
     let (split, split_is, e4) = bind_ok (optional (1 ∷ 1 ∷ []) (spot key.LampSplit i) (numbers 2 1 8) (get_member (codes "split") lamp)) _ f e3 in
-    let same : fitting_from turn maintenance size split ≡ f = ok_same _ f e4 in
+    let (aim, _, e5) = bind_ok (optional Down (spot key.LampAim i) aim_text (get_member (codes "aim") lamp)) _ f e4 in
+    let same : fitting_from turn maintenance size split aim ≡ f = ok_same _ f e5 in
     let sizes = optional_numbers_between (0 ∷ 0 ∷ []) 2 0 5000 (spot key.LampSize i) (get_member (codes "size") lamp) size no_size_between size_is in
     let splits = optional_numbers_between (1 ∷ 1 ∷ []) 2 1 8 (spot key.LampSplit i) (get_member (codes "split") lamp) split no_split_between split_is in
     subst IsFitting same (record {
@@ -140,23 +146,23 @@ fitting_accepted i lamp f e =
     })
 
 -- the parts of a lamp that the layout gives
-pub record HasLampParts (room : Size) (i : ℕ) (files : List FileUse) (d : Data) (r : Lamp × List FileUse) : Type 0 where
+pub record HasLampParts (room : Shell) (i : ℕ) (files : List FileUse) (d : Data) (r : Lamp × List FileUse) : Type 0 where
   pub lamp : Members
   pub at : List ℕ
   pub source : Source
   pub fitting : Fitting
   pub lit : Shine × List FileUse
-  pub lamp_is : table_with lamp_keys (spot key.Lamp i) d ≡ Ok lamp
+  pub lamp_is : table_with (lamp_keys room.version) (spot key.Lamp i) d ≡ Ok lamp
   pub source_is : source_of i lamp ≡ Ok source
   pub fitting_is : fitting_of i lamp ≡ Ok fitting
   pub lit_is : shine_of i files source.set source.candela source.file ≡ Ok lit
   pub end_is : checked_lamp room i (lamp_from at lit.0 fitting) lit.1 ≡ Ok r
 
-pub lamp_parts : (room : Size) (i : ℕ) (files : List FileUse) (d : Data) (r : Lamp × List FileUse) → lamp_of room i files d ≡ Ok r → HasLampParts room i files d r
+pub lamp_parts : (room : Shell) (i : ℕ) (files : List FileUse) (d : Data) (r : Lamp × List FileUse) → lamp_of room i files d ≡ Ok r → HasLampParts room i files d r
 unfolding lamp_of
 lamp_parts room i files d r e =
-    let (lamp, lamp_is, e1) = bind_ok (table_with lamp_keys (spot key.Lamp i) d) _ r e in
-    let (at, _, e2) = bind_ok (required (spot key.LampAt i) (numbers 3 0 50000) (get_member (codes "at") lamp)) _ r e1 in
+    let (lamp, lamp_is, e1) = bind_ok (table_with (lamp_keys room.version) (spot key.Lamp i) d) _ r e in
+    let (at, _, e2) = bind_ok (required (spot key.LampAt i) (numbers 3 0 (longest_edge room.version)) (get_member (codes "at") lamp)) _ r e1 in
     let (source, source_is, e3) = bind_ok (source_of i lamp) _ r e2 in
     let (fitting, fitting_is, e4) = bind_ok (fitting_of i lamp) _ r e3 in
     let (lit, lit_is, e5) = bind_ok (shine_of i files source.set source.candela source.file) _ r e4 in
@@ -174,10 +180,10 @@ lamp_parts room i files d r e =
     }
 
 -- the lamp of those values
-abbrev pub lamp_of_parts : {room : Size} {i : ℕ} {files : List FileUse} {d : Data} {r : Lamp × List FileUse} → HasLampParts room i files d r → Lamp
+abbrev pub lamp_of_parts : {room : Shell} {i : ℕ} {files : List FileUse} {d : Data} {r : Lamp × List FileUse} → HasLampParts room i files d r → Lamp
 lamp_of_parts p = lamp_from p.at p.lit.0 p.fitting
 
-parts_accepted : (room : Size) (i : ℕ) (files : List FileUse) (d : Data) (r : Lamp × List FileUse) → HasLampParts room i files d r → IsLampWith room files r
+parts_accepted : (room : Shell) (i : ℕ) (files : List FileUse) (d : Data) (r : Lamp × List FileUse) → HasLampParts room i files d r → IsLampWith room.size files r
 parts_accepted room i files d r p =
     let (same, inside, few) = checked_accepted room i (lamp_of_parts p) p.lit.1 r p.end_is in
     let source = source_parts i p.lamp p.source p.source_is in
@@ -186,13 +192,13 @@ parts_accepted room i files d r p =
     (candela_accepted i (get_member (codes "candela") p.lamp) p.source.candela source.candela)
     (name_accepted (spot key.LampFile i) (get_member (codes "file") p.lamp) p.source.file source.file) in
     let fitting = fitting_accepted i p.lamp p.fitting p.fitting_is in
-    subst (IsLampWith room files) same (record {
-      lamp = lamp_inside room (length p.lit.1) (lamp_of_parts p) inside shine.1 fitting.turn fitting.maintenance fitting.size_x fitting.size_y fitting.split_x fitting.split_y;
+    subst (IsLampWith room.size files) same (record {
+      lamp = lamp_inside room.size (length p.lit.1) (lamp_of_parts p) inside shine.1 fitting.turn fitting.maintenance fitting.size_x fitting.size_y fitting.split_x fitting.split_y;
       extends = shine.0;
       few = few;
     })
 
-pub lamp_accepted : (room : Size) (i : ℕ) (files : List FileUse) (d : Data) (r : Lamp × List FileUse) → lamp_of room i files d ≡ Ok r → IsLampWith room files r
+pub lamp_accepted : (room : Shell) (i : ℕ) (files : List FileUse) (d : Data) (r : Lamp × List FileUse) → lamp_of room i files d ≡ Ok r → IsLampWith room.size files r
 lamp_accepted room i files d r e = parts_accepted room i files d r (lamp_parts room i files d r e)
 
 -- ---- all lamps
@@ -221,19 +227,19 @@ pub record AreLampsWith (room : Size) (files : List FileUse) (count : ℕ) (r : 
   pub extends : ExtendsFiles files r.files
   pub few : length r.files ≤ 16
 
-pub lamps_accepted : (room : Size) (i : ℕ) (files : List FileUse) (ds : List Data) (r : Lit) → length files ≤ 16 → lamps_from room i files ds ≡ Ok r → AreLampsWith room files (length ds) r
+pub lamps_accepted : (room : Shell) (i : ℕ) (files : List FileUse) (ds : List Data) (r : Lit) → length files ≤ 16 → lamps_from room i files ds ≡ Ok r → AreLampsWith room.size files (length ds) r
 lamps_accepted room i files [] r few e =
     let same : record { lamps = []; files = files } ≡ r = ok_same _ r e in
-    subst (AreLampsWith room files 0) same (record { as_many = refl; each_lamp = All-nil _; extends = record { longer = omega arith; each_file = λ all. all }; few = few })
+    subst (AreLampsWith room.size files 0) same (record { as_many = refl; each_lamp = All-nil _; extends = record { longer = omega arith; each_file = λ all. all }; few = few })
 lamps_accepted room i files (d ∷ ds) r few e =
     let (l, lamp_is, e1) = bind_ok (lamp_of room i files d) (λ l. lamps_from room (i + 1) l.1 ds >>= λ r. Ok (record { lamps = l.0 ∷ r.lamps; files = r.files })) r e in
     let (rest, rest_is, e2) = bind_ok (lamps_from room (i + 1) l.1 ds) (λ r. Ok (record { lamps = l.0 ∷ r.lamps; files = r.files })) r e1 in
     let same : record { lamps = l.0 ∷ rest.lamps; files = rest.files } ≡ r = ok_same _ r e2 in
     let first = lamp_accepted room i files d l lamp_is in
     let more = lamps_accepted room (i + 1) l.1 ds rest first.few rest_is in
-    subst (AreLampsWith room files (suc (length ds))) same (record {
+    subst (AreLampsWith room.size files (suc (length ds))) same (record {
       as_many = ap suc more.as_many;
-      each_lamp = All-cons (IsLampIn room (length rest.files)) l.0 rest.lamps (more_files room _ _ more.extends.longer l.0 first.lamp) more.each_lamp;
+      each_lamp = All-cons (IsLampIn room.size (length rest.files)) l.0 rest.lamps (more_files room.size _ _ more.extends.longer l.0 first.lamp) more.each_lamp;
       extends = record { longer = omega (arith, first.extends.longer, more.extends.longer); each_file = λ all. more.extends.each_file (first.extends.each_file all) };
       few = more.few;
     })

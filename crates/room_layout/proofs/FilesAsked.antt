@@ -6,7 +6,7 @@ use Rattle.toml.specs.Data.{Data, Items, Members, get_member, as_integer, as_str
 use Rattle.room_layout.specs.declared.fault.Key.TheVariants as key
 use Rattle.room_layout.specs.declared.fault.RoomFault.TheVariants as fault
 use Rattle.room_layout.specs.declared.fault.Spot.{Spot}
-use Rattle.room_layout.specs.declared.geometry.Size.{Size}
+use Rattle.room_layout.specs.declared.parts.Shell.{Shell}
 use Rattle.room_layout.specs.declared.room.Lamp.{Lamp}
 use Rattle.room_layout.specs.declared.room.Shine.{Shine}
 use Rattle.room_layout.specs.declared.room.Shine.TheVariants.{Even, File}
@@ -80,7 +80,7 @@ own_shine i files set None (Some name) r k e is =
     (subst (ShinesByOwn (Some name) set (placed f files).1) at (record { name = name; given = refl; within = within; own = own }))
 
 -- the lamp's table asks for the file by which it shines
-asks_own : (room : Size) (i : ℕ) (files : List FileUse) (d : Data) (r : Lamp × List FileUse) → lamp_of room i files d ≡ Ok r → (k : ℕ) (f : FileUse) → ShinesBy k r.0 → (k < length r.1) × AsksFor (get_or r.1 k f) d
+asks_own : (room : Shell) (i : ℕ) (files : List FileUse) (d : Data) (r : Lamp × List FileUse) → lamp_of room i files d ≡ Ok r → (k : ℕ) (f : FileUse) → ShinesBy k r.0 → (k < length r.1) × AsksFor (get_or r.1 k f) d
 asks_own room i files d r e k f shines =
     let p = lamp_parts room i files d r e in
     let (same, _, _) = checked_accepted room i (lamp_of_parts p) p.lit.1 r p.end_is in
@@ -89,7 +89,7 @@ asks_own room i files d r e k f shines =
     let source = source_parts i p.lamp p.source p.source_is in
     let asks : AsksFor (record { name = by.name; set = p.source.set }) d = record {
       lamp = p.lamp;
-      table = table_of lamp_keys (spot key.Lamp i) d p.lamp p.lamp_is;
+      table = table_of (lamp_keys room.version) (spot key.Lamp i) d p.lamp p.lamp_is;
       name = name_seen (spot key.LampFile i) (get_member (codes "file") p.lamp) by.name (source.file ∙ ap Ok by.given);
       set = set_seen (spot key.LampSet i) (get_member (codes "set") p.lamp) p.source.set source.set;
     } in
@@ -101,7 +101,7 @@ asks_own room i files d r e k f shines =
 abbrev AskFor : List Data → Lit → Type 0
 AskFor ds r = AllZip (λ d lamp. (k : ℕ) (f : FileUse) → ShinesBy k lamp → AsksFor (get_or r.files k f) d) ds r.lamps
 
-lamps_ask : (room : Size) (i : ℕ) (files : List FileUse) (ds : List Data) (r : Lit) → lamps_from room i files ds ≡ Ok r → AskFor ds r
+lamps_ask : (room : Shell) (i : ℕ) (files : List FileUse) (ds : List Data) (r : Lit) → lamps_from room i files ds ≡ Ok r → AskFor ds r
 lamps_ask room i files [] r e = let same : record { lamps = []; files = files } ≡ r = ok_same _ r e in subst (AskFor []) same tt
 lamps_ask room i files (d ∷ ds) r e =
     let (l, lamp_is, e1) = bind_ok (lamp_of room i files d) (λ l. lamps_from room (i + 1) l.1 ds >>= λ r. Ok (record { lamps = l.0 ∷ r.lamps; files = r.files })) r e in
@@ -117,7 +117,7 @@ lamps_ask room i files (d ∷ ds) r e =
 pub document_asked : (document : Members) (r : Room) → room_of_document document ≡ Ok r → ShinesAsAsked document r
 document_asked document r e =
     let parts = room_parts document r e in
-    let (ds, given, read) = lamps_read parts.shell.size document _ parts.lamps_are in
+    let (ds, given, read) = lamps_read parts.shell document _ parts.lamps_are in
     let same : lamps_in document ≡ ds = array_seen 256 (spot key.Lamp 0) (get_member (codes "lamp") document) ds given in
-    let asked = lamps_ask parts.shell.size 0 [] ds (record { lamps = r.lamps; files = r.files }) read in
+    let asked = lamps_ask parts.shell 0 [] ds (record { lamps = r.lamps; files = r.files }) read in
     subst (λ es. AskFor es (record { lamps = r.lamps; files = r.files })) (sym same) asked

@@ -10,7 +10,7 @@ use Rattle.std.proofs.lemmas.List.Sums.{fails_before_first}
 use Rattle.std.proofs.lemmas.List.Quantifiers.{all_pairs_push, position-Some}
 use Rattle.std.proofs.lemmas.Slice.Eq.{bytes_eq-Decides}
 use Rattle.toml.specs.Data.{Data, Members}
-use Rattle.room_layout.specs.declared.geometry.Size.{Size}
+use Rattle.room_layout.specs.declared.parts.Shell.{Shell}
 use Rattle.room_layout.specs.declared.room.Lamp.{Lamp}
 use Rattle.room_layout.specs.declared.room.Shine.{Shine}
 use Rattle.room_layout.specs.declared.room.Shine.TheVariants.{Even, File}
@@ -111,7 +111,7 @@ uses_shine i files set None (Some name) r e =
     let same : (File (placed f files).0, (placed f files).1) ≡ r = ok_same _ r e in
     subst (λ v. UsesNext files v.0 v.1) same (uses_placed f files (position (is_same_use f) files) refl).0
 
-uses_lamp : (room : Size) (i : ℕ) (files : List FileUse) (d : Data) (r : Lamp × List FileUse) → lamp_of room i files d ≡ Ok r → UsesNext files r.0.shine r.1
+uses_lamp : (room : Shell) (i : ℕ) (files : List FileUse) (d : Data) (r : Lamp × List FileUse) → lamp_of room i files d ≡ Ok r → UsesNext files r.0.shine r.1
 uses_lamp room i files d r e =
     let p = lamp_parts room i files d r e in
     let (same, _, _) = checked_accepted room i (lamp_of_parts p) p.lit.1 r p.end_is in
@@ -155,7 +155,7 @@ one_more_lamp files more l rest first then = record {
   in_order = λ i k d above h names. ordered_at files more l rest first then i k d above h names (cases_lt k (length more));
 }
 
-pub lamps_use : (room : Size) (i : ℕ) (files : List FileUse) (ds : List Data) (r : Lit) → lamps_from room i files ds ≡ Ok r → UseFiles files r
+pub lamps_use : (room : Shell) (i : ℕ) (files : List FileUse) (ds : List Data) (r : Lit) → lamps_from room i files ds ≡ Ok r → UseFiles files r
 lamps_use room i files [] r e = let same : record { lamps = []; files = files } ≡ r = ok_same _ r e in subst (UseFiles files) same (no_lamps files)
 lamps_use room i files (d ∷ ds) r e =
     let (l, lamp_is, e1) = bind_ok (lamp_of room i files d) (λ l. lamps_from room (i + 1) l.1 ds >>= λ r. Ok (record { lamps = l.0 ∷ r.lamps; files = r.files })) r e in
@@ -168,8 +168,8 @@ lamps_use room i files (d ∷ ds) r e =
 pub document_files : (document : Members) (r : Room) → room_of_document document ≡ Ok r → HasEachFileOnce r
 document_files document r e =
     let parts = room_parts document r e in
-    let (ds, _, read) = lamps_read parts.shell.size document _ parts.lamps_are in
-    let uses = lamps_use parts.shell.size 0 [] ds (record { lamps = r.lamps; files = r.files }) read in
+    let (ds, _, read) = lamps_read parts.shell document _ parts.lamps_are in
+    let uses = lamps_use parts.shell 0 [] ds (record { lamps = r.lamps; files = r.files }) read in
     record {
       apart = uses.apart (λ i j d before within. absurd (omega (arith, within)));
       used = λ k within. uses.used k (omega arith) within;

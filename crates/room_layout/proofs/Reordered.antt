@@ -13,10 +13,12 @@ use Rattle.room_layout.specs.declared.fault.RoomFault.{RoomFault}
 use Rattle.room_layout.specs.declared.fault.RoomFault.TheVariants as fault
 use Rattle.room_layout.specs.declared.fault.Spot.{Spot}
 use Rattle.room_layout.specs.declared.fault.Key.TheVariants as key
-use Rattle.room_layout.specs.declared.geometry.Size.{Size}
+use Rattle.room_layout.specs.declared.geometry.Face.TheVariants.{Down}
+use Rattle.room_layout.specs.declared.parts.Shell.{Shell}
+use Rattle.room_layout.specs.declared.version.Version.{Version}
 use Rattle.room_layout.specs.declared.room.FileUse.{FileUse}
 use Rattle.room_layout.specs.Checks.{◌>>=◌, demand, each, spot, required, optional, where_given, ranged, kind, number, is_integer, items_list, array, all_numbers, numbers, is_name, name_text, is_among, has_only, table_with, elements}
-use Rattle.room_layout.specs.Layout.{room_keys, version_one, version_of, shell_of, box_keys, block_of, blocks_from, blocks_of, lamp_keys, source_of, fitting_of, lamp_of, lamps_from, lamps_of, task_keys, task_of, limits_keys, limits_in, limits_of, document_keys, room_of_document}
+use Rattle.room_layout.specs.Layout.{longest_edge, room_keys, version_from, version_of, shell_of, box_keys, block_of, blocks_from, blocks_of, lamp_keys, aim_named, known_aim, aim_text, source_of, fitting_of, lamp_of, lamps_from, lamps_of, task_keys, task_of, limits_keys, limits_in, limits_of, document_keys, room_of_document}
 use Rattle.room_layout.specs.Laws.{IsReordered, same, arrays, tables, IsReorderedIfGiven, neither, both, AreItemsReordered, none, next, AreReordered, IgnoresOrder}
 
 -- ---- unknown keys
@@ -143,6 +145,9 @@ number-steady lo hi s d e r = ap (λ o. kind s o >>= ranged lo hi s) (integer-sa
 name_text-steady : (s : Spot) → IsSteady (name_text s)
 name_text-steady s d e r = ap (λ o. kind s o >>= λ bytes. cond (is_name bytes) (Ok bytes) (Err (fault.Range s))) (text-same r)
 
+aim_text-steady : (s : Spot) → IsSteady (aim_text s)
+aim_text-steady s d e r = ap (λ o. kind s o >>= λ name. known_aim s (aim_named name)) (text-same r)
+
 -- ---- arrays
 
 items-alike : {a b : Items} → AreItemsReordered a b → AllZip IsReordered (items_list a) (items_list b)
@@ -218,37 +223,37 @@ optional-agrees R default itself s check agrees (both {d} {e} r) = agrees d e r
 
 version_of-same : (a b : Members) → AreReordered a b → version_of a ≡ version_of b
 unfolding version_of
-version_of-same a b r = ap version_one (required-same (spot key.Version 0) (number 1 1) (number-steady 1 1 (spot key.Version 0)) (r (codes "version")))
+version_of-same a b r = ap version_from (required-same (spot key.Version 0) (number 1 2) (number-steady 1 2 (spot key.Version 0)) (r (codes "version")))
 
-shell_of-same : (a b : Members) → AreReordered a b → shell_of a ≡ shell_of b
+shell_of-same : (version : Version) (a b : Members) → AreReordered a b → shell_of version a ≡ shell_of version b
 unfolding shell_of
-shell_of-same a b r =
+shell_of-same version a b r =
     bind-same AreReordered _ _ _ _ (required-agrees AreReordered (spot key.Room 0) (table_with room_keys) (table-agrees room_keys (spot key.Room 0)) (r (codes "room")))
     (λ x y at. rw (
-      required-same (spot key.RoomSize 0) (numbers 3 500 50000) (numbers-steady 3 500 50000 (spot key.RoomSize 0)) (at (codes "size")),
+      required-same (spot key.RoomSize 0) (numbers 3 500 (longest_edge version)) (numbers-steady 3 500 (longest_edge version) (spot key.RoomSize 0)) (at (codes "size")),
       optional-same (0 ∷ 0 ∷ 0 ∷ 0 ∷ 0 ∷ 0 ∷ []) (spot key.RoomReflect 0) (numbers 6 0 950) (numbers-steady 6 0 950 (spot key.RoomReflect 0)) (at (codes "reflect")),
       optional-same 600 (spot key.RoomPatch 0) (number 50 50000) (number-steady 50 50000 (spot key.RoomPatch 0)) (at (codes "patch")),
     ))
 
 -- ---- boxes
 
-block_of-same : (room : Size) (i : ℕ) (d e : Data) → IsReordered d e → block_of room i d ≡ block_of room i e
+block_of-same : (room : Shell) (i : ℕ) (d e : Data) → IsReordered d e → block_of room i d ≡ block_of room i e
 unfolding block_of
 block_of-same room i d e r =
     bind-same AreReordered _ _ _ _ (table-agrees box_keys (spot key.Box i) d e r)
     (λ x y at. rw (
-      required-same (spot key.BoxLo i) (numbers 3 0 50000) (numbers-steady 3 0 50000 (spot key.BoxLo i)) (at (codes "lo")),
-      required-same (spot key.BoxHi i) (numbers 3 0 50000) (numbers-steady 3 0 50000 (spot key.BoxHi i)) (at (codes "hi")),
+      required-same (spot key.BoxLo i) (numbers 3 0 (longest_edge room.version)) (numbers-steady 3 0 (longest_edge room.version) (spot key.BoxLo i)) (at (codes "lo")),
+      required-same (spot key.BoxHi i) (numbers 3 0 (longest_edge room.version)) (numbers-steady 3 0 (longest_edge room.version) (spot key.BoxHi i)) (at (codes "hi")),
       optional-same 0 (spot key.BoxReflect i) (number 0 950) (number-steady 0 950 (spot key.BoxReflect i)) (at (codes "reflect")),
     ))
 
-blocks_from-same : (room : Size) (i : ℕ) (ds es : List Data) → AllZip IsReordered ds es → blocks_from room i ds ≡ blocks_from room i es
+blocks_from-same : (room : Shell) (i : ℕ) (ds es : List Data) → AllZip IsReordered ds es → blocks_from room i ds ≡ blocks_from room i es
 blocks_from-same room i [] [] r = refl
 blocks_from-same room i [] (e ∷ es) r = elim r [ ]
 blocks_from-same room i (d ∷ ds) [] r = elim r [ ]
 blocks_from-same room i (d ∷ ds) (e ∷ es) r = rw (block_of-same room i d e r.0, blocks_from-same room (i + 1) ds es r.1)
 
-blocks_of-same : (room : Size) (a b : Members) → AreReordered a b → blocks_of room a ≡ blocks_of room b
+blocks_of-same : (room : Shell) (a b : Members) → AreReordered a b → blocks_of room a ≡ blocks_of room b
 unfolding blocks_of
 blocks_of-same room a b r =
     bind-same (AllZip IsReordered) (blocks_from room 0) (blocks_from room 0) _ _
@@ -271,25 +276,26 @@ fitting_of-same i a b at = rw (
   optional-same 1000 (spot key.LampMaintenance i) (number 0 1000) (number-steady 0 1000 (spot key.LampMaintenance i)) (at (codes "maintenance")),
   optional-same (0 ∷ 0 ∷ []) (spot key.LampSize i) (numbers 2 0 5000) (numbers-steady 2 0 5000 (spot key.LampSize i)) (at (codes "size")),
   optional-same (1 ∷ 1 ∷ []) (spot key.LampSplit i) (numbers 2 1 8) (numbers-steady 2 1 8 (spot key.LampSplit i)) (at (codes "split")),
+  optional-same Down (spot key.LampAim i) aim_text (aim_text-steady (spot key.LampAim i)) (at (codes "aim")),
 )
 
-lamp_of-same : (room : Size) (i : ℕ) (files : List FileUse) (d e : Data) → IsReordered d e → lamp_of room i files d ≡ lamp_of room i files e
+lamp_of-same : (room : Shell) (i : ℕ) (files : List FileUse) (d e : Data) → IsReordered d e → lamp_of room i files d ≡ lamp_of room i files e
 unfolding lamp_of
 lamp_of-same room i files d e r =
-    bind-same AreReordered _ _ _ _ (table-agrees lamp_keys (spot key.Lamp i) d e r)
+    bind-same AreReordered _ _ _ _ (table-agrees (lamp_keys room.version) (spot key.Lamp i) d e r)
     (λ x y at. rw (
-      required-same (spot key.LampAt i) (numbers 3 0 50000) (numbers-steady 3 0 50000 (spot key.LampAt i)) (at (codes "at")),
+      required-same (spot key.LampAt i) (numbers 3 0 (longest_edge room.version)) (numbers-steady 3 0 (longest_edge room.version) (spot key.LampAt i)) (at (codes "at")),
       source_of-same i x y at,
       fitting_of-same i x y at,
     ))
 
-lamps_from-same : (room : Size) (i : ℕ) (files : List FileUse) (ds es : List Data) → AllZip IsReordered ds es → lamps_from room i files ds ≡ lamps_from room i files es
+lamps_from-same : (room : Shell) (i : ℕ) (files : List FileUse) (ds es : List Data) → AllZip IsReordered ds es → lamps_from room i files ds ≡ lamps_from room i files es
 lamps_from-same room i files [] [] r = refl
 lamps_from-same room i files [] (e ∷ es) r = elim r [ ]
 lamps_from-same room i files (d ∷ ds) [] r = elim r [ ]
 lamps_from-same room i files (d ∷ ds) (e ∷ es) r = bind-each _ _ _ _ (lamp_of-same room i files d e r.0) (λ l. rw (lamps_from-same room (i + 1) l.1 ds es r.1))
 
-lamps_of-same : (room : Size) (a b : Members) → AreReordered a b → lamps_of room a ≡ lamps_of room b
+lamps_of-same : (room : Shell) (a b : Members) → AreReordered a b → lamps_of room a ≡ lamps_of room b
 unfolding lamps_of
 lamps_of-same room a b r =
     bind-same (AllZip IsReordered) (lamps_from room 0 []) (lamps_from room 0 []) _ _
@@ -297,14 +303,14 @@ lamps_of-same room a b r =
 
 -- ---- the task and the limits
 
-task_of-same : (room : Size) (a b : Members) → AreReordered a b → task_of room a ≡ task_of room b
+task_of-same : (room : Shell) (a b : Members) → AreReordered a b → task_of room a ≡ task_of room b
 unfolding task_of
 task_of-same room a b r =
     bind-same AreReordered _ _ _ _ (required-agrees AreReordered (spot key.Task 0) (table_with task_keys) (table-agrees task_keys (spot key.Task 0)) (r (codes "task")))
     (λ x y at. rw (
-      required-same (spot key.TaskFrom 0) (numbers 2 0 50000) (numbers-steady 2 0 50000 (spot key.TaskFrom 0)) (at (codes "from")),
-      required-same (spot key.TaskTo 0) (numbers 2 0 50000) (numbers-steady 2 0 50000 (spot key.TaskTo 0)) (at (codes "to")),
-      required-same (spot key.TaskHeight 0) (number 0 50000) (number-steady 0 50000 (spot key.TaskHeight 0)) (at (codes "height")),
+      required-same (spot key.TaskFrom 0) (numbers 2 0 (longest_edge room.version)) (numbers-steady 2 0 (longest_edge room.version) (spot key.TaskFrom 0)) (at (codes "from")),
+      required-same (spot key.TaskTo 0) (numbers 2 0 (longest_edge room.version)) (numbers-steady 2 0 (longest_edge room.version) (spot key.TaskTo 0)) (at (codes "to")),
+      required-same (spot key.TaskHeight 0) (number 0 (longest_edge room.version)) (number-steady 0 (longest_edge room.version) (spot key.TaskHeight 0)) (at (codes "height")),
       required-same (spot key.TaskPoints 0) (numbers 2 1 1024) (numbers-steady 2 1 1024 (spot key.TaskPoints 0)) (at (codes "points")),
     ))
 
@@ -327,11 +333,11 @@ room_of_document-same : (a b : Members) → AreReordered a b → room_of_documen
 unfolding room_of_document
 room_of_document-same a b r =
     bind-each _ _ _ _ (version_of-same a b r)
-    (λ one. bind-each _ _ _ _ (ap (λ t. demand t (fault.Unknown (spot key.Version 0))) (has_only-reordered document_keys a b r))
-    (λ known. bind-each _ _ _ _ (shell_of-same a b r)
-    (λ shell. bind-each _ _ _ _ (blocks_of-same shell.size a b r)
-    (λ blocks. bind-each _ _ _ _ (lamps_of-same shell.size a b r)
-    (λ lit. bind-each _ _ _ _ (task_of-same shell.size a b r)
+    (λ version. bind-each _ _ _ _ (ap (λ t. demand t (fault.Unknown (spot key.Version 0))) (has_only-reordered document_keys a b r))
+    (λ known. bind-each _ _ _ _ (shell_of-same version a b r)
+    (λ shell. bind-each _ _ _ _ (blocks_of-same shell a b r)
+    (λ blocks. bind-each _ _ _ _ (lamps_of-same shell a b r)
+    (λ lit. bind-each _ _ _ _ (task_of-same shell a b r)
     (λ task. bind-each _ _ _ _ (limits_of-same a b r)
     (λ limits. refl)))))))
 

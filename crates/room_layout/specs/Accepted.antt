@@ -1,5 +1,6 @@
--- The rooms that the layout accepts, and those of them that have only the keys that are served.
+-- The rooms that the layout accepts: every number in the range that version 2 has for it, and the whole within the limits.
 use Rattle.std.specs.Prelude.{◌≡◌, ℕ, ◌+◌, ◌*◌, ◌<◌, ◌≤◌, true, length, All, None, IfSome}
+use Rattle.room_layout.specs.Across.{extent_of}
 use Rattle.room_layout.specs.Checks.{is_name}
 use Rattle.room_layout.specs.declared.geometry.Size.{Size}
 use Rattle.room_layout.specs.declared.room.Reflects.{Reflects}
@@ -18,9 +19,9 @@ abbrev pub IsBetween : ℕ → ℕ → ℕ → Type 0
 IsBetween lo hi n = (lo ≤ n) × (n ≤ hi)
 
 pub record IsRoomSize (s : Size) : Type 0 where
-  pub x : IsBetween 500 50000 s.x
-  pub y : IsBetween 500 50000 s.y
-  pub z : IsBetween 500 50000 s.z
+  pub x : IsBetween 500 100000 s.x
+  pub y : IsBetween 500 100000 s.y
+  pub z : IsBetween 500 100000 s.z
 
 pub record AreReflects (r : Reflects) : Type 0 where
   pub floor : r.floor ≤ 950
@@ -48,9 +49,9 @@ HasMargin at size edge = (size ≤ 2 * at) × (2 * at + size ≤ 2 * edge)
 
 -- a lamp within a room of this size that has so many files
 pub record IsLampIn (room : Size) (files : ℕ) (l : Lamp) : Type 0 where
-  pub x : (l.at.x ≤ room.x) × HasMargin l.at.x l.size_x room.x
-  pub y : (l.at.y ≤ room.y) × HasMargin l.at.y l.size_y room.y
-  pub z : l.at.z ≤ room.z
+  pub x : (l.at.x ≤ room.x) × HasMargin l.at.x (extent_of l).x room.x
+  pub y : (l.at.y ≤ room.y) × HasMargin l.at.y (extent_of l).y room.y
+  pub z : (l.at.z ≤ room.z) × HasMargin l.at.z (extent_of l).z room.z
   pub shine : IsShine files l.shine
   pub turn : l.turn ≤ 359
   pub maintenance : l.maintenance ≤ 1000

@@ -35,6 +35,7 @@ key_text key.TaskPoints = codes "task.points"
 key_text key.Limits = codes "limits"
 key_text key.LimitsAverageMillilux = codes "limits.average_millilux"
 key_text key.LimitsUniformityPermille = codes "limits.uniformity_permille"
+key_text key.LampAim = codes "lamp.aim"
 
 -- the key is one of a box or a lamp, of which there may be several
 abbrev pub is_indexed : Key → Bool
@@ -51,6 +52,7 @@ is_indexed key.LampTurn = true
 is_indexed key.LampMaintenance = true
 is_indexed key.LampSize = true
 is_indexed key.LampSplit = true
+is_indexed key.LampAim = true
 is_indexed _ = false
 
 -- the key, and for a box or a lamp a space and its index

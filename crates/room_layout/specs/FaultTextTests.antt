@@ -16,6 +16,10 @@ a_lamp_outside : fault_text (fault.Outside (spot key.Lamp 0)) ≡ codes "7 Outsi
 unfolding digits
 a_lamp_outside = refl
 
+an_aim_of_no_name : fault_text (fault.Range (spot key.LampAim 3)) ≡ codes "6 Range lamp.aim 3"
+unfolding digits
+an_aim_of_no_name = refl
+
 the_seventeenth_file : fault_text (fault.TooMany (spot key.LampFile 16)) ≡ codes "8 TooMany lamp.file 16"
 unfolding digits
 the_seventeenth_file = refl

@@ -1,4 +1,6 @@
 pub mod Place
+pub mod Across
+pub mod AcrossTests
 pub mod PlaceTests
 pub mod Positions
 pub mod Checks

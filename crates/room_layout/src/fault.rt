@@ -7,7 +7,7 @@ ghost use Rattle.room_layout.specs.FaultText.{key_text, is_indexed, spot_text, f
 use std::alloc::{AllocError, AllocFailed, Global};
 use std::fmt;
 
-/// A key of the layout, in the layout's order.
+/// A key of the layout, in the order of version 1; `LampAim` is one of version 2 alone.
 #[derive(Clone, Copy, Debug, PartialEq, Eq)]
 pub enum Key {
     Version,
@@ -36,6 +36,7 @@ pub enum Key {
     Limits,
     LimitsAverageMillilux,
     LimitsUniformityPermille,
+    LampAim,
 }
 
 /// A key, and the index of its box or lamp counted from 0. The index is 0 outside boxes and lamps.
@@ -50,7 +51,7 @@ pub struct Spot {
 pub enum RoomFault {
     /// The bytes aren't UTF-8, or the text isn't TOML.
     NotToml,
-    /// `version` isn't there or isn't the integer 1.
+    /// `version` isn't there, or isn't the integer 1 or 2.
     Version,
     /// A key that has to be there isn't.
     Missing(Spot),
@@ -100,6 +101,7 @@ impl Key {
             Key::Limits => "limits",
             Key::LimitsAverageMillilux => "limits.average_millilux",
             Key::LimitsUniformityPermille => "limits.uniformity_permille",
+            Key::LampAim => "lamp.aim",
         }
     }
 }
@@ -124,6 +126,7 @@ impl Key {
                 | Key::LampMaintenance
                 | Key::LampSize
                 | Key::LampSplit
+                | Key::LampAim
         )
     }
 }

@@ -1,5 +1,6 @@
 //! Points, sizes and faces. A face is parallel to two axes of the room.
-ghost use Rattle.std.specs.Prelude.{◌≤◌};
+ghost use Rattle.std.specs.Prelude.{◌≡◌, ◌≤◌};
+ghost use Rattle.room_layout.specs.Across.{across};
 
 /// A point in the room, in half millimetres from the corner where floor, wall x = 0 and wall y = 0 meet.
 #[derive(Clone, Copy, Debug, PartialEq, Eq)]
@@ -38,4 +39,20 @@ pub enum Face {
     West,
     North,
     South,
+}
+
+impl Face {
+    /// What a rectangle that faces so measures along x, y and z, or into how many parts it is cut there: `first` and `second` along
+    /// the two axes across the normal, in the order x, y, z, and `along` along the normal.
+    #[tactic(auto, unfolding(crate::specs::Across::across))]
+    pub fn across(self, first: u32, second: u32, along: u32) -> Size
+        ensures { result ≡ across self first second along }
+    {
+        let (x, y, z) = match self {
+            Face::Up | Face::Down => (first, second, along),
+            Face::East | Face::West => (along, first, second),
+            Face::North | Face::South => (first, along, second),
+        };
+        Size { x, y, z }
+    }
 }

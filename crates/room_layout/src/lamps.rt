@@ -1,21 +1,26 @@
 //! The lamps of a layout, and the files that they use.
-ghost use Rattle.std.specs.Prelude.{◌≡◌, ◌≢◌, ◌≤◌, map, [], length, position, option_map, Result, Ok, Err, IfOk, IfErr, OnOk};
+ghost use Rattle.std.specs.Prelude.{◌≡◌, ◌≢◌, ◌≤◌, map, [], length, position, option_map, codes, Result, Ok, Err, IfOk, IfErr, OnOk};
+ghost use Rattle.toml.specs.Data.{get_member};
 ghost use Rattle.toml.specs.View.{view, table_view};
-ghost use Rattle.room_layout.specs.Layout.{is_same_use, has_margin, is_lamp_inside, lamp_from, held_source, source_of, fitting_of, shine_of, checked_lamp, lamp_of, lamps_from, lamps_of, placed};
+ghost use Rattle.room_layout.specs.Checks.{optional, spot, table_with};
+ghost use Rattle.room_layout.specs.declared.fault.Key.TheVariants as key;
+ghost use Rattle.room_layout.specs.declared.geometry.Face.TheVariants.{Down};
+ghost use Rattle.room_layout.specs.Layout.{is_same_use, has_margin, has_margins, is_lamp_inside, lamp_keys, aim_named, aim_text, lamp_from, held_source, source_of, fitting_of, shine_of, checked_lamp, lamp_of, lamps_from, lamps_of, placed};
 
 use crate::check::{
     elements, member, name_where_given, number_where_given, optional_number, optional_numbers,
     required_numbers, table_with,
 };
-use crate::parts::{Fitting, Lit, Source};
+use crate::parts::{Fitting, Lit, Shell, Source};
 use crate::sizes::{fits_in, size_from};
-use crate::{FileUse, FileUses, Key, Lamp, Lamps, Name, RoomFault, Shine, Size, Spot};
+use crate::version::Version;
+use crate::{Face, FileUse, FileUses, Key, Lamp, Lamps, Name, RoomFault, Shine, Size, Spot};
 use std::alloc::Global;
 use toml::{Table, Value};
 
-/// The lamps of a document, in a room of this size.
+/// The lamps of a document, in such a room.
 #[tactic(auto, unfolding(crate::specs::Layout::lamps_of))]
-pub fn read_lamps(alloc: Global, document: &Table, room: Size) -> Result<Lit, RoomFault>
+pub fn read_lamps(alloc: Global, document: &Table, room: Shell) -> Result<Lit, RoomFault>
     ensures given { IfOk result (λ lit. lamps_of room (table_view document.now) ≡ Ok lit) }
     ensures refused { IfErr result (λ e. e ≢ RoomFault.Memory → lamps_of room (table_view document.now) ≡ Err e) }
 {
@@ -29,7 +34,7 @@ pub fn read_lamps(alloc: Global, document: &Table, room: Size) -> Result<Lit, Ro
 }
 
 /// Each lamp in turn.
-fn read_each(alloc: Global, values: &[Value], room: Size) -> Result<Lit, RoomFault>
+fn read_each(alloc: Global, values: &[Value], room: Shell) -> Result<Lit, RoomFault>
     requires { length values.now ≤ 256 }
     ensures given { IfOk result (λ lit. lamps_from room 0 [] (map view values.now) ≡ Ok lit) }
     ensures refused { IfErr result (λ e. e ≢ RoomFault.Memory → lamps_from room 0 [] (map view values.now) ≡ Err e) }
@@ -53,34 +58,61 @@ fn read_lamp(
     files: &mut Vec<FileUse>,
     value: &Value,
     index: u32,
-    room: Size,
+    room: Shell,
 ) -> Result<Lamp, RoomFault>
     requires { length files.old.items ≤ 16 }
     ensures given { IfOk result (λ lamp. lamp_of room index files.old.items (view value.now) ≡ Ok (lamp, files.new.items)) }
     ensures refused { IfErr result (λ e. e ≢ RoomFault.Memory → lamp_of room index files.old.items (view value.now) ≡ Err e) }
     ensures few { OnOk result (length files.new.items ≤ 16) }
 {
-    let table = table_with(
-        value,
-        &[
-            "at",
-            "candela",
-            "file",
-            "set",
-            "turn",
-            "maintenance",
-            "size",
-            "split",
-        ],
-        Spot::at(Key::Lamp, index),
-    )?;
-    let at = required_numbers::<3>(table, "at", 0, 50_000, Spot::at(Key::LampAt, index))?;
+    let table = lamp_table(room.version, value, index)?;
+    let longest = room.version.longest_edge();
+    let at = required_numbers::<3>(table, "at", 0, longest, Spot::at(Key::LampAt, index))?;
     let source = read_source(table, index)?;
     let fitting = read_fitting(table, index)?;
     let shine = read_shine(alloc, files, index, source)?;
     let lamp = lamp_from(at, shine, fitting);
     check_lamp(lamp, files, room, index)?;
     Ok(lamp)
+}
+
+/// The table of the lamp at this index, that has no key but those which the version knows.
+fn lamp_table(version: Version, value: &Value, index: u32) -> Result<&Table, RoomFault>
+    ensures given { IfOk result (λ table. table_with (lamp_keys version) (spot key.Lamp index) (view value.now) ≡ Ok (table_view table.now)) }
+    ensures refused { IfErr result (λ e. table_with (lamp_keys version) (spot key.Lamp index) (view value.now) ≡ Err e) }
+{
+    let lamp = Spot::at(Key::Lamp, index);
+    match version {
+        Version::One => table_with(
+            value,
+            &[
+                "at",
+                "candela",
+                "file",
+                "set",
+                "turn",
+                "maintenance",
+                "size",
+                "split",
+            ],
+            lamp,
+        ),
+        Version::Two => table_with(
+            value,
+            &[
+                "at",
+                "candela",
+                "file",
+                "set",
+                "turn",
+                "maintenance",
+                "size",
+                "split",
+                "aim",
+            ],
+            lamp,
+        ),
+    }
 }
 
 /// What the keys of the lamp at this index say of its light.
@@ -131,6 +163,7 @@ fn read_fitting(table: &Table, index: u32) -> Result<Fitting, RoomFault>
         8,
         Spot::at(Key::LampSplit, index),
     )?;
+    let aim = read_aim(table, index)?;
     Ok(Fitting {
         turn: turn as u16,
         maintenance: maintenance as u16,
@@ -138,7 +171,52 @@ fn read_fitting(table: &Table, index: u32) -> Result<Fitting, RoomFault>
         size_y: size[1],
         split_x: split[0],
         split_y: split[1],
+        aim,
     })
+}
+
+/// The aim of the lamp at this index, down where the key isn't given.
+fn read_aim(table: &Table, index: u32) -> Result<Face, RoomFault>
+    ensures { result ≡ optional Down (spot key.LampAim index) aim_text (get_member (codes "aim") (table_view table.now)) }
+{
+    match member(table, "aim") {
+        Some(value) => aim_text(value, Spot::at(Key::LampAim, index)),
+        None => Ok(Face::Down),
+    }
+}
+
+/// The aim that a text names.
+fn aim_text(value: &Value, spot: Spot) -> Result<Face, RoomFault>
+    ensures { result ≡ aim_text spot (view value.now) }
+{
+    let Some(name) = value.as_str() else {
+        return Err(RoomFault::Kind(spot));
+    };
+    match aim_named(name) {
+        Some(aim) => Ok(aim),
+        None => Err(RoomFault::Range(spot)),
+    }
+}
+
+/// The face whose normal is the aim of that name, where it is one of the six.
+fn aim_named(name: &str) -> Option<Face>
+    ensures { result ≡ aim_named name.now }
+{
+    if name == "-z" {
+        Some(Face::Down)
+    } else if name == "+z" {
+        Some(Face::Up)
+    } else if name == "-x" {
+        Some(Face::West)
+    } else if name == "+x" {
+        Some(Face::East)
+    } else if name == "-y" {
+        Some(Face::South)
+    } else if name == "+y" {
+        Some(Face::North)
+    } else {
+        None
+    }
 }
 
 fn lamp_from(at: [u32; 3], shine: Shine, fitting: Fitting) -> Lamp
@@ -153,17 +231,18 @@ fn lamp_from(at: [u32; 3], shine: Shine, fitting: Fitting) -> Lamp
         size_y: fitting.size_y,
         split_x: fitting.split_x,
         split_y: fitting.split_y,
+        aim: fitting.aim,
     }
 }
 
 /// That the lamp at this index is within the room, and that no more files are used with it than a room may have.
 #[tactic(auto, unfolding(crate::specs::Layout::checked_lamp))]
-fn check_lamp(lamp: Lamp, files: &[FileUse], room: Size, index: u32) -> Result<(), RoomFault>
+fn check_lamp(lamp: Lamp, files: &[FileUse], room: Shell, index: u32) -> Result<(), RoomFault>
     ensures given { OnOk result (checked_lamp room index lamp files.now ≡ Ok (lamp, files.now)) }
     ensures refused { IfErr result (λ e. checked_lamp room index lamp files.now ≡ Err e) }
     ensures few { OnOk result (length files.now ≤ 16) }
 {
-    if !is_lamp_inside(lamp, room) {
+    if !is_lamp_inside(lamp, room.size) {
         return Err(RoomFault::Outside(Spot::at(Key::Lamp, index)));
     }
     if files.len() > 16 {
@@ -230,9 +309,17 @@ fn use_position(files: &[FileUse], name: &str, set: u32) -> Option<usize>
 fn is_lamp_inside(lamp: Lamp, room: Size) -> bool
     ensures { result ≡ is_lamp_inside lamp room }
 {
-    fits_in(lamp.at, room)
-        && has_margin(lamp.at.x, lamp.size_x, room.x)
-        && has_margin(lamp.at.y, lamp.size_y, room.y)
+    let extent = lamp.aim.across(lamp.size_x, lamp.size_y, 0);
+    fits_in(lamp.at, room) && has_margins(lamp.at, extent, room)
+}
+
+/// Whether half of the extent on either side of the place is within the room along every axis.
+fn has_margins(at: Size, extent: Size, room: Size) -> bool
+    ensures { result ≡ has_margins at extent room }
+{
+    has_margin(at.x, extent.x, room.x)
+        && has_margin(at.y, extent.y, room.y)
+        && has_margin(at.z, extent.z, room.z)
 }
 
 /// Whether half of the size on either side of the place is within the edge. Both sides are doubled, so that half of an odd size is exact.

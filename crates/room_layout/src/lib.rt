@@ -13,6 +13,7 @@ mod position;
 mod read;
 mod room;
 mod sizes;
+mod version;
 #[cfg(test)]
 mod tests;
 

@@ -1,10 +1,12 @@
 //! Parts of a room as they are read.
 
-use crate::{FileUses, Lamps, Reflects, Size};
+use crate::version::Version;
+use crate::{Face, FileUses, Lamps, Reflects, Size};
 
-/// What the table `room` says: the room's edges, its reflectances, and the longest edge of a patch in millimetres.
+/// The layout's version, and what the table `room` says: the room's edges, its reflectances, and the longest edge of a patch in millimetres.
 #[derive(Clone, Copy)]
 pub struct Shell {
+    pub version: Version,
     pub size: Size,
     pub reflect: Reflects,
     pub patch: u32,
@@ -18,7 +20,8 @@ pub struct Source<'a> {
     pub set: u32,
 }
 
-/// How a lamp is put up: `turn` in degrees, `maintenance` in thousandths, its rectangle in millimetres, and how many points stand for it.
+/// How a lamp is put up: `turn` in degrees, `maintenance` in thousandths, its rectangle in millimetres, how many points
+/// stand for it, and the face whose normal is its aim.
 #[derive(Clone, Copy)]
 pub struct Fitting {
     pub turn: u16,
@@ -27,6 +30,7 @@ pub struct Fitting {
     pub size_y: u32,
     pub split_x: u32,
     pub split_y: u32,
+    pub aim: Face,
 }
 
 /// The lamps, and the files that they use in order of first use.

@@ -13,6 +13,7 @@ use crate::check::{
 use crate::lamps::read_lamps;
 use crate::parts::Shell;
 use crate::sizes::{reflects_from, size_from};
+use crate::version::Version;
 use crate::{Key, Limits, Reflects, Room, RoomFault, Size, Spot, TaskGrid};
 use std::alloc::Global;
 use toml::{Table, Value};
@@ -53,17 +54,17 @@ fn read_document(alloc: Global, document: &Table) -> Result<Room, RoomFault>
     ensures given { IfOk result (λ r. room_of_document (table_view document.now) ≡ Ok r) }
     ensures refused { IfErr result (λ e. e ≢ RoomFault.Memory → room_of_document (table_view document.now) ≡ Err e) }
 {
-    check_version(document)?;
+    let version = read_version(document)?;
     if !has_only(
         document,
         &["version", "room", "box", "lamp", "task", "limits"],
     ) {
         return Err(RoomFault::Unknown(Spot::of(Key::Version)));
     }
-    let shell = read_shell(document)?;
-    let blocks = read_blocks(alloc, document, shell.size)?;
-    let lit = read_lamps(alloc, document, shell.size)?;
-    let task = read_task(document, shell.size)?;
+    let shell = read_shell(version, document)?;
+    let blocks = read_blocks(alloc, document, shell)?;
+    let lit = read_lamps(alloc, document, shell)?;
+    let task = read_task(document, shell)?;
     let limits = read_limits(document)?;
     Ok(Room {
         size: shell.size,
@@ -77,21 +78,22 @@ fn read_document(alloc: Global, document: &Table) -> Result<Room, RoomFault>
     })
 }
 
-/// That the version is 1. Anything else is the fault `Version`.
+/// The version, which is 1 or 2. Anything else is the fault `Version`.
 #[tactic(auto, unfolding(crate::specs::Layout::version_of))]
-fn check_version(document: &Table) -> Result<(), RoomFault>
+fn read_version(document: &Table) -> Result<Version, RoomFault>
     ensures { result ≡ version_of (table_view document.now) }
 {
-    match required_number(document, "version", 1, 1, Spot::of(Key::Version)) {
-        Ok(_) => Ok(()),
+    match required_number(document, "version", 1, 2, Spot::of(Key::Version)) {
+        Ok(1) => Ok(Version::One),
+        Ok(_) => Ok(Version::Two),
         Err(_) => Err(RoomFault::Version),
     }
 }
 
-/// The table `room`.
+/// The table `room` of a layout of this version.
 #[tactic(auto, unfolding(crate::specs::Layout::shell_of))]
-fn read_shell(document: &Table) -> Result<Shell, RoomFault>
-    ensures { result ≡ shell_of (table_view document.now) }
+fn read_shell(version: Version, document: &Table) -> Result<Shell, RoomFault>
+    ensures { result ≡ shell_of version (table_view document.now) }
 {
     let room = required_table(
         document,
@@ -99,7 +101,8 @@ fn read_shell(document: &Table) -> Result<Shell, RoomFault>
         &["size", "reflect", "patch"],
         Spot::of(Key::Room),
     )?;
-    let size = required_numbers::<3>(room, "size", 500, 50_000, Spot::of(Key::RoomSize))?;
+    let longest = version.longest_edge();
+    let size = required_numbers::<3>(room, "size", 500, longest, Spot::of(Key::RoomSize))?;
     let reflect = optional_numbers::<6>(
         room,
         "reflect",
@@ -110,15 +113,16 @@ fn read_shell(document: &Table) -> Result<Shell, RoomFault>
     )?;
     let patch = optional_number(room, "patch", 600, 50, 50_000, Spot::of(Key::RoomPatch))?;
     Ok(Shell {
+        version,
         size: size_from(size),
         reflect: reflects_from(reflect),
         patch,
     })
 }
 
-/// The task grid in a room of this size.
+/// The task grid in such a room.
 #[tactic(auto, unfolding(crate::specs::Layout::task_of))]
-fn read_task(document: &Table, room: Size) -> Result<TaskGrid, RoomFault>
+fn read_task(document: &Table, room: Shell) -> Result<TaskGrid, RoomFault>
     ensures { result ≡ task_of room (table_view document.now) }
 {
     let task = required_table(
@@ -127,15 +131,16 @@ fn read_task(document: &Table, room: Size) -> Result<TaskGrid, RoomFault>
         &["from", "to", "height", "points"],
         Spot::of(Key::Task),
     )?;
-    let from = required_numbers::<2>(task, "from", 0, 50_000, Spot::of(Key::TaskFrom))?;
-    let to = required_numbers::<2>(task, "to", 0, 50_000, Spot::of(Key::TaskTo))?;
-    let height = required_number(task, "height", 0, 50_000, Spot::of(Key::TaskHeight))?;
+    let longest = room.version.longest_edge();
+    let from = required_numbers::<2>(task, "from", 0, longest, Spot::of(Key::TaskFrom))?;
+    let to = required_numbers::<2>(task, "to", 0, longest, Spot::of(Key::TaskTo))?;
+    let height = required_number(task, "height", 0, longest, Spot::of(Key::TaskHeight))?;
     let points = required_numbers::<2>(task, "points", 1, 1_024, Spot::of(Key::TaskPoints))?;
     let grid = task_from(from, to, height, points);
     if !is_rising(grid) {
         return Err(RoomFault::Range(Spot::of(Key::TaskTo)));
     }
-    if !is_task_inside(grid, room) {
+    if !is_task_inside(grid, room.size) {
         return Err(RoomFault::Outside(Spot::of(Key::Task)));
     }
     if u64::from(grid.nx) * u64::from(grid.ny) > 1_024 {

@@ -1,7 +1,7 @@
 //! A room and what is in it. Its lists of boxes, lamps and files are of one type, which contracts see as a list.
 ghost use Rattle.std.specs.Prelude.{◌≡◌, IfOk, length};
 
-use crate::Size;
+use crate::{Face, Size};
 use std::alloc::{AllocError, Global};
 use std::marker::Model;
 
@@ -20,8 +20,10 @@ pub enum Shine {
     File(u32),
 }
 
-/// A lamp. Its middle is `at`, in millimetres; `turn` is in degrees and `maintenance` in thousandths. It shines from a rectangle of
-/// `size_x` by `size_y` millimetres, which `split_x` by `split_y` points stand for.
+/// A lamp. Its middle is `at`, in millimetres; `turn` is in degrees and `maintenance` in thousandths. `aim` is the face whose normal is
+/// the way in which gamma 0 leads: `Down` is the aim of a lamp that hangs. It shines from a rectangle of `size_x` by `size_y`
+/// millimetres, which `split_x` by `split_y` points stand for; x and y stand here for the first and the second of the two axes across
+/// the aim, in the order x, y, z.
 #[derive(Clone, Copy, Debug, PartialEq, Eq)]
 pub struct Lamp {
     pub at: Size,
@@ -32,6 +34,7 @@ pub struct Lamp {
     pub size_y: u32,
     pub split_x: u32,
     pub split_y: u32,
+    pub aim: Face,
 }
 
 /// A file's name: 1 to 255 bytes of text without control characters. Contracts see its bytes.
