@@ -1,6 +1,7 @@
 pub mod Lamps
 pub mod Directions
 pub mod Shares
+pub mod LampLight
 pub mod Ways
 pub mod Laws
 mod WayTests

@@ -24,7 +24,9 @@ use Rattle.interval_system.specs.System.{IsDirectLight}
 use Rattle.direct_light.specs.Lamps.{lamp_place, lamp_points, part_count}
 use Rattle.direct_light.specs.Shares.{loose_share, share}
 use Rattle.scene_system.specs.Causes.{greatest_total, ticks_of, total_ticks}
-use Rattle.scene_system.specs.Light.{is_clear, lamp_light, light_of_first, light_of_points, loose_lamp_light, loose_light_of_first, loose_light_of_points, no_lamp}
+use Rattle.sight_line.specs.Sight.{is_clear}
+use Rattle.direct_light.specs.LampLight.{lamp_light, light_of_points, loose_lamp_light, loose_light_of_points}
+use Rattle.scene_system.specs.Light.{light_of_first, loose_light_of_first, no_lamp}
 use Rattle.scene_system.specs.Parts.{IsDirectFor}
 use Rattle.scene_system.specs.Positions.{IsLampLight, IsShare, most_light}
 use Rattle.scene_system.specs.Sight.{at_of}

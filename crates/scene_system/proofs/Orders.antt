@@ -24,7 +24,9 @@ use Rattle.direct_light.specs.Shares.{loose_share, share, table_at}
 use Rattle.direct_light.specs.Laws.{IsOrdered}
 use Rattle.direct_light.proofs.Ordered.{lamp_shares_in_order, outward_order}
 use Rattle.scene_system.specs.Laws.{RadiosityIsInOrder}
-use Rattle.scene_system.specs.Light.{is_clear, lamp_light, loose_lamp_light, light_of_points, loose_light_of_points, light_of_first, loose_light_of_first, direct_light, loose_direct_light, no_lamp}
+use Rattle.sight_line.specs.Sight.{is_clear}
+use Rattle.direct_light.specs.LampLight.{lamp_light, loose_lamp_light, light_of_points, loose_light_of_points}
+use Rattle.scene_system.specs.Light.{light_of_first, loose_light_of_first, direct_light, loose_direct_light, no_lamp}
 use Rattle.scene_system.specs.Scene.{patch_count, patch_of, patch_place, patch_face, no_patch, task_point_place, coefficient_at, loose_coefficient_at}
 use Rattle.scene_system.specs.Tables.{AreExactTables}
 

@@ -23,7 +23,7 @@ use Rattle.form_factor.proofs.Coefficients.{narrows, close_of}
 use Rattle.scene_system.specs.Assembled.{Numbers, point_weight, HasNearWeights, HasWeightsOf, IsWellFormed, IsWeightAt}
 use Rattle.scene_system.specs.RowSums.{row_sum, slack, RowsStayBelowOne}
 use Rattle.scene_system.specs.Scene.{patch_count, patch_of, patch_place, patch_face, task_point_place, coefficient_at, loose_coefficient_at, radiosity, loose_radiosity}
-use Rattle.scene_system.specs.Light.{is_clear}
+use Rattle.sight_line.specs.Sight.{is_clear}
 use Rattle.scene_system.proofs.Orders.{coefficient_order, loose_coefficient_order, patch_reaches}
 
 -- ---- sums of ticks and of fractions

@@ -14,7 +14,7 @@ use Rattle.room_layout.specs.declared.geometry.Size.{Size}
 use Rattle.room_layout.specs.declared.room.Block.{Block}
 use Rattle.room_layout.specs.declared.room.Lamp.{Lamp}
 use Rattle.room_layout.specs.declared.room.Room.{Room}
-use Rattle.sight_line.specs.Sight.{is_blocked}
+use Rattle.sight_line.specs.Sight.{is_blocked, is_clear}
 use Rattle.sight_index.specs.Cells.{IsPointIn}
 use Rattle.sight_index.specs.Index.{size_of}
 use Rattle.sight_index.specs.Vantages.{IsVantage}
@@ -24,7 +24,7 @@ use Rattle.patch_mesh.specs.declared.patch.Patch.{Patch}
 use Rattle.form_factor.specs.Weights.{IsCoefficient}
 use Rattle.direct_light.specs.Lamps.{first_points, lamp_place, lamp_points, part_count}
 use Rattle.direct_light.proofs.PointLists.{column_below, middle_most, row_below}
-use Rattle.scene_system.specs.Light.{is_clear, no_lamp}
+use Rattle.scene_system.specs.Light.{no_lamp}
 use Rattle.scene_system.specs.Parts.{ArePatchesOf}
 use Rattle.scene_system.specs.Positions.{ArePointsOfFirst}
 use Rattle.scene_system.specs.Receivers.{no_receiver, place_lit, AreReceiversAt}

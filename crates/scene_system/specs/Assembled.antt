@@ -15,7 +15,8 @@ use Rattle.patch_mesh.specs.declared.patch.Patch.{Patch}
 use Rattle.patch_mesh.specs.declared.patch.TaskPoint.{TaskPoint}
 use Rattle.form_factor.specs.Weights.{IsCoefficient}
 use Rattle.interval_system.specs.System.{System, IsSystem, IsDirectLight, IsRow, no_weight, no_light, weight_at, direct_at}
-use Rattle.scene_system.specs.Light.{is_clear, direct_light, loose_direct_light}
+use Rattle.sight_line.specs.Sight.{is_clear}
+use Rattle.scene_system.specs.Light.{direct_light, loose_direct_light}
 use Rattle.scene_system.specs.Scene.{patch_count, patch_of, patch_place, patch_face, task_point_place, loose_coefficient_at}
 use Rattle.scene_system.specs.declared.scene.Scene.{Scene}
 

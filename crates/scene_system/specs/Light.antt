@@ -1,39 +1,19 @@
--- The light that the lamps of a room give at a place: what falls on a plane there, in lux. Boxes cut it off.
-use Rattle.std.specs.Prelude.{ℕ, Bool, not, List, length, slice_index_or}
+-- The light that all lamps of a room give at a place: what falls on a plane there, in lux.
+use Rattle.std.specs.Prelude.{ℕ, List, length, slice_index_or}
 use Rattle.fx_base.specs.Interval.{Interval, sum_of}
 use Rattle.room_layout.specs.Place.{Place}
 use Rattle.room_layout.specs.declared.geometry.Face.{Face}
+use Rattle.room_layout.specs.declared.geometry.Face.TheVariants.{Down}
 use Rattle.room_layout.specs.declared.room.Lamp.{Lamp}
 use Rattle.room_layout.specs.declared.room.Room.{Room}
 use Rattle.room_layout.specs.declared.room.Shine.TheVariants.{Even}
 use Rattle.photo_table.specs.Table.{Table}
-use Rattle.sight_line.specs.Sight.{is_blocked}
-use Rattle.direct_light.specs.Lamps.{lamp_place, part_count}
-use Rattle.direct_light.specs.Shares.{share, loose_share}
+use Rattle.direct_light.specs.LampLight.{lamp_light, loose_lamp_light}
 
--- the way between two places is clear: no point of it lies in the open inside of a box
-unfoldable pub is_clear : Room → Place → Place → Bool
-is_clear room p q = not (is_blocked room.blocks p q)
-
--- ---- one lamp, where `tables` are the exact tables of the room's files, in their order
-
--- its first `count` points together
-unfoldable pub light_of_points : ℕ → ℕ → List Table → Room → Place → Face → Lamp → Interval
-light_of_points n count tables room p face l = sum_of count (λ k. share n tables l (lamp_place l k) p face (is_clear room (lamp_place l k) p))
-
-unfoldable pub loose_light_of_points : ℕ → ℕ → List Table → Room → Place → Face → Lamp → Interval
-loose_light_of_points n count tables room p face l = sum_of count (λ k. loose_share n tables l (lamp_place l k) p face (is_clear room (lamp_place l k) p))
-
-abbrev pub lamp_light : ℕ → List Table → Room → Place → Face → Lamp → Interval
-lamp_light n tables room p face l = light_of_points n (part_count l) tables room p face l
-
-abbrev pub loose_lamp_light : ℕ → List Table → Room → Place → Face → Lamp → Interval
-loose_lamp_light n tables room p face l = loose_light_of_points n (part_count l) tables room p face l
-
--- ---- all lamps
+-- ---- all lamps of a room, where `tables` are the exact tables of its files, in their order
 
 abbrev pub no_lamp : Lamp
-no_lamp = record { at = record { x = 0; y = 0; z = 0 }; shine = Even 0; turn = 0; maintenance = 0; size_x = 0; size_y = 0; split_x = 0; split_y = 0 }
+no_lamp = record { at = record { x = 0; y = 0; z = 0 }; shine = Even 0; turn = 0; maintenance = 0; size_x = 0; size_y = 0; split_x = 0; split_y = 0; aim = Down }
 
 -- the first `count` lamps together
 unfoldable pub light_of_first : ℕ → ℕ → List Table → Room → Place → Face → Interval

@@ -13,7 +13,8 @@ use Rattle.photo_table.specs.Table.{Table}
 use Rattle.direct_light.specs.Lamps.{lamp_points, part_count}
 use Rattle.direct_light.specs.Shares.{share, loose_share}
 use Rattle.scene_system.specs.Causes.{ticks_of}
-use Rattle.scene_system.specs.Light.{lamp_light, loose_lamp_light, no_lamp}
+use Rattle.direct_light.specs.LampLight.{lamp_light, loose_lamp_light}
+use Rattle.scene_system.specs.Light.{no_lamp}
 use Rattle.scene_system.specs.Sight.{AreVantagesOf}
 use Rattle.scene_system.specs.Tables.{AreTablesOf}
 use Rattle.scene_system.specs.declared.points.LampPoints.{LampPoints}

@@ -14,7 +14,8 @@ use Rattle.patch_mesh.specs.declared.patch.Patch.{Patch}
 use Rattle.patch_mesh.specs.declared.patch.TaskPoint.{TaskPoint}
 use Rattle.form_factor.specs.Coefficient.{coefficient, loose_coefficient}
 use Rattle.interval_system.specs.Radiosity.{Radiosity}
-use Rattle.scene_system.specs.Light.{is_clear, direct_light, loose_direct_light}
+use Rattle.sight_line.specs.Sight.{is_clear}
+use Rattle.scene_system.specs.Light.{direct_light, loose_direct_light}
 
 -- ---- patches and task points by their numbers
 

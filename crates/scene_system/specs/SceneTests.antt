@@ -15,7 +15,7 @@ use Rattle.room_layout.specs.declared.room.Block.{Block}
 use Rattle.room_layout.specs.declared.room.Lamp.{Lamp}
 use Rattle.room_layout.specs.declared.room.Room.{Room}
 use Rattle.room_layout.specs.declared.room.Shine.TheVariants.{Even, File}
-use Rattle.sight_line.specs.Sight.{meets_box, is_blocked}
+use Rattle.sight_line.specs.Sight.{meets_box, is_blocked, is_clear}
 use Rattle.patch_mesh.specs.Surfaces.{surfaces}
 use Rattle.patch_mesh.specs.Patches.{tiling_of, patch_at, row_patches, whole_row, first_rows, tiling_patches, tilings, patches}
 use Rattle.patch_mesh.specs.TaskPoints.{task_point, row_points, task_points}
@@ -30,7 +30,8 @@ use Rattle.photo_table.specs.Table.{Table, plane, value, end_at, bilinear}
 use Rattle.direct_light.specs.Directions.{step_from}
 use Rattle.direct_light.specs.Lamps.{lamp_place}
 use Rattle.direct_light.specs.Shares.{falloff, share_of, loosened}
-use Rattle.scene_system.specs.Light.{is_clear, light_of_points, loose_light_of_points, light_of_first, loose_light_of_first, direct_light, loose_direct_light}
+use Rattle.direct_light.specs.LampLight.{light_of_points, loose_light_of_points}
+use Rattle.scene_system.specs.Light.{light_of_first, loose_light_of_first, direct_light, loose_direct_light}
 use Rattle.scene_system.specs.Scene.{patch_count, patch_place, patch_face, task_point_place, radiosity, loose_radiosity}
 use Rattle.scene_system.specs.Assembled.{open_points}
 use Rattle.scene_system.specs.Causes.{greatest_of, fault_of_mesh, greatest_total, ticks_of, total_ticks, IsCause, IsWithinLimits}

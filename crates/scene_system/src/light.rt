@@ -7,7 +7,7 @@ ghost use Rattle.room_layout.specs.Positions.{IsInReach};
 ghost use Rattle.sight_index.specs.Vantages.{IsVantage};
 ghost use Rattle.interval_system.specs.System.{IsDirectLight};
 ghost use Rattle.direct_light.specs.Lamps.{lamp_points};
-ghost use Rattle.scene_system.specs.Light.{is_clear};
+ghost use Rattle.sight_line.specs.Sight.{is_clear};
 ghost use Rattle.scene_system.specs.Parts.{IsDirectFor};
 ghost use Rattle.scene_system.specs.Positions.{IsLampLight, IsShare};
 ghost use Rattle.scene_system.specs.Sight.{AreVantagesOf};

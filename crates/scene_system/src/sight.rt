@@ -4,7 +4,7 @@ ghost use Rattle.room_layout.specs.Place.{place_of};
 ghost use Rattle.sight_index.specs.Cells.{IsPointIn};
 ghost use Rattle.sight_index.specs.Index.{size_of};
 ghost use Rattle.sight_index.specs.Vantages.{IsVantage};
-ghost use Rattle.scene_system.specs.Light.{is_clear};
+ghost use Rattle.sight_line.specs.Sight.{is_clear};
 ghost use Rattle.scene_system.specs.Sight.{AreVantagesOf, IsIndexed};
 
 use fx_base::Memory;

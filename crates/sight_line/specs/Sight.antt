@@ -1,9 +1,10 @@
 -- Where a segment meets the open inside of a box, over whole numbers and without division: places in half millimetres, boxes in
 -- millimetres.
-use Rattle.std.specs.Prelude.{ℕ, ◌+◌, ◌*◌, ◌-◌, ◌<◌, Bool, ◌||◌, nat_lt, List, [], ◌∷◌, take, slice_get, All, IsSomeAnd}
+use Rattle.std.specs.Prelude.{ℕ, ◌+◌, ◌*◌, ◌-◌, ◌<◌, Bool, not, ◌||◌, nat_lt, List, [], ◌∷◌, take, slice_get, All, IsSomeAnd}
 use Rattle.std.specs.List.{list_all, list_any}
 use Rattle.room_layout.specs.Place.{Place}
 use Rattle.room_layout.specs.declared.room.Block.{Block}
+use Rattle.room_layout.specs.declared.room.Room.{Room}
 
 -- ---- the relation
 
@@ -62,3 +63,7 @@ meets_box p q b = list_all (λ f. list_all (λ g. enters_before f g) (sides p q 
 -- the segment meets one of the boxes
 unfoldable pub is_blocked : List Block → Place → Place → Bool
 is_blocked blocks p q = list_any (λ b. meets_box p q b) blocks
+
+-- the way between two places of a room is clear: no point of it lies in the open inside of a box
+unfoldable pub is_clear : Room → Place → Place → Bool
+is_clear room p q = not (is_blocked room.blocks p q)

@@ -1,7 +1,7 @@
 use Rattle.std.proofs.Common.{sym}
 use Rattle.room_layout.specs.Place.{place_of}
 use Rattle.room_layout.specs.Positions.{place_at}
-use Rattle.scene_system.specs.Light.{is_clear}
+use Rattle.sight_line.specs.Sight.{is_clear}
 use Rattle.scene_system.proofs.Shares.{behind_share, hidden_share}
 use Rattle.scene_system.proofs.light.light_of_point.Goals as goal
 

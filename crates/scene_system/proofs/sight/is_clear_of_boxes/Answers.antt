@@ -1,5 +1,5 @@
 -- The boxes near the way have been asked, and no other is met.
-use Rattle.scene_system.specs.Light.{is_clear}
+use Rattle.sight_line.specs.Sight.{is_clear}
 use Rattle.sight_index.proofs.Agreed.{clear_between}
 use Rattle.scene_system.proofs.sight.is_clear_of_boxes.Goals as goal
 

@@ -1,0 +1,25 @@
+-- The light that one lamp of a room gives at a place: what falls on a plane there, in lux. Boxes cut it off. `tables` are the exact
+-- tables of the room's files, in their order.
+use Rattle.std.specs.Prelude.{ℕ, List}
+use Rattle.fx_base.specs.Interval.{Interval, sum_of}
+use Rattle.room_layout.specs.Place.{Place}
+use Rattle.room_layout.specs.declared.geometry.Face.{Face}
+use Rattle.room_layout.specs.declared.room.Lamp.{Lamp}
+use Rattle.room_layout.specs.declared.room.Room.{Room}
+use Rattle.photo_table.specs.Table.{Table}
+use Rattle.sight_line.specs.Sight.{is_clear}
+use Rattle.direct_light.specs.Lamps.{lamp_place, part_count}
+use Rattle.direct_light.specs.Shares.{share, loose_share}
+
+-- its first `count` points together
+unfoldable pub light_of_points : ℕ → ℕ → List Table → Room → Place → Face → Lamp → Interval
+light_of_points n count tables room p face l = sum_of count (λ k. share n tables l (lamp_place l k) p face (is_clear room (lamp_place l k) p))
+
+unfoldable pub loose_light_of_points : ℕ → ℕ → List Table → Room → Place → Face → Lamp → Interval
+loose_light_of_points n count tables room p face l = sum_of count (λ k. loose_share n tables l (lamp_place l k) p face (is_clear room (lamp_place l k) p))
+
+abbrev pub lamp_light : ℕ → List Table → Room → Place → Face → Lamp → Interval
+lamp_light n tables room p face l = light_of_points n (part_count l) tables room p face l
+
+abbrev pub loose_lamp_light : ℕ → List Table → Room → Place → Face → Lamp → Interval
+loose_lamp_light n tables room p face l = loose_light_of_points n (part_count l) tables room p face l
