@@ -3,6 +3,7 @@ use Rattle.std.proofs.Common.{◌≡◌, ℕ, ◌+◌, zero, suc, pos, List, [],
 use Rattle.std.specs.Prelude.{Any}
 use Rattle.std.specs.Option.{option_and_then, unwrap_or}
 use Rattle.toml.specs.Data.{Data, get_member, as_str, integer, string, array, table, no_items, item, no_members, member}
+use Rattle.room_layout.specs.declared.geometry.Face.TheVariants.{Down}
 use Rattle.room_layout.specs.declared.room.Lamp.{Lamp}
 use Rattle.room_layout.specs.declared.room.Shine.{Shine}
 use Rattle.room_layout.specs.declared.room.Shine.TheVariants.{Even, File}
@@ -12,7 +13,7 @@ use Rattle.room_layout.proofs.FilesOnce.{same_index}
 use Rattle.room_layout.proofs.Ranges.{some_same}
 
 abbrev lamp : Shine → Lamp
-lamp shine = record { at = record { x = 0; y = 0; z = 0 }; shine = shine; turn = 0; maintenance = 1000; size_x = 0; size_y = 0; split_x = 1; split_y = 1 }
+lamp shine = record { at = record { x = 0; y = 0; z = 0 }; shine = shine; turn = 0; maintenance = 1000; size_x = 0; size_y = 0; split_x = 1; split_y = 1; aim = Down }
 
 abbrev pair : List ℕ → ℕ → FileUse
 pair name set = record { name = name; set = set }

@@ -4,8 +4,8 @@ ghost use Rattle.toml.specs.View.{view, table_view};
 ghost use Rattle.room_layout.specs.Layout.{block_of, blocks_from, blocks_of};
 
 use crate::check::{elements, member, optional_number, required_numbers, table_with};
-use crate::sizes::{fits_in, is_above, size_from};
 use crate::parts::Shell;
+use crate::sizes::{fits_in, is_above, size_from};
 use crate::{Block, Blocks, Key, RoomFault, Spot};
 use std::alloc::Global;
 use toml::{Table, Value};

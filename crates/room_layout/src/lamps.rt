@@ -81,7 +81,6 @@ fn lamp_table(version: Version, value: &Value, index: u32) -> Result<&Table, Roo
     ensures given { IfOk result (λ table. table_with (lamp_keys version) (spot key.Lamp index) (view value.now) ≡ Ok (table_view table.now)) }
     ensures refused { IfErr result (λ e. table_with (lamp_keys version) (spot key.Lamp index) (view value.now) ≡ Err e) }
 {
-    let lamp = Spot::at(Key::Lamp, index);
     match version {
         Version::One => table_with(
             value,
@@ -95,7 +94,7 @@ fn lamp_table(version: Version, value: &Value, index: u32) -> Result<&Table, Roo
                 "size",
                 "split",
             ],
-            lamp,
+            Spot::at(Key::Lamp, index),
         ),
         Version::Two => table_with(
             value,
@@ -110,7 +109,7 @@ fn lamp_table(version: Version, value: &Value, index: u32) -> Result<&Table, Roo
                 "split",
                 "aim",
             ],
-            lamp,
+            Spot::at(Key::Lamp, index),
         ),
     }
 }

@@ -13,9 +13,9 @@ mod position;
 mod read;
 mod room;
 mod sizes;
-mod version;
 #[cfg(test)]
 mod tests;
+mod version;
 
 pub use check::is_printable;
 pub use fault::{Key, RoomFault, Spot};

@@ -13,10 +13,11 @@ pub const EDITS: &str = "version > 2 Version
 version = '1' > 2 Version
 version = 1.0 > 2 Version
 version = 0 > 2 Version
-version = 2 > 2 Version
+version = 3 > 2 Version
 version = 1 > accepted
+version = 2 > accepted
 colour = 1 > 4 Unknown version
-colour = 1; version = 2 > 2 Version
+colour = 1; version = 3 > 2 Version
 colour = 1; room > 4 Unknown version
 lamps = []; task = 1 > 4 Unknown version
 room > 3 Missing room
@@ -162,6 +163,46 @@ lamp = [{ at = [100, 100, 0], candela = 1, size = [0, 201] }] > 7 Outside lamp 0
 lamp = [{ at = [5900, 0, 0], candela = 1, size = [201, 0] }] > 7 Outside lamp 0
 lamp = [{ at = [0, 4900, 0], candela = 1, size = [0, 201] }] > 7 Outside lamp 0
 lamp = 1; task = 1 > 5 Kind lamp 0
+lamp = [{ at = [0, 0, 0], candela = 1, aim = '-z' }] > 4 Unknown lamp 0
+version = 2; room = { size = [100000, 100000, 100000] }; limits > accepted
+version = 2; room = { size = [100001, 5000, 3000] } > 6 Range room.size
+version = 2; room = { size = [499, 5000, 3000] } > 6 Range room.size
+version = 2; room = { size = [6000, 5000, 3000], patch = 50001 } > 6 Range room.patch
+version = 2; box = [{ lo = [100000, 0, 0], hi = [100001, 1, 1] }] > 6 Range box.hi 0
+version = 2; box = [{ lo = [0, 0, 100001], hi = [1, 1, 1] }] > 6 Range box.lo 0
+version = 2; box = [{ lo = [0, 0, 0], hi = [100000, 1, 1] }] > 7 Outside box 0
+version = 2; lamp = [{ at = [100000, 0, 0] }] > 3 Missing lamp.candela 0
+version = 2; lamp = [{ at = [0, 100001, 0] }] > 6 Range lamp.at 0
+version = 2; task = { from = [100001, 0] } > 6 Range task.from
+version = 2; task = { from = [100000, 0], to = [0, 100001] } > 6 Range task.to
+version = 2; task = { from = [0, 0], to = [100000, 100000], height = 100001 } > 6 Range task.height
+version = 2; task = { from = [0, 0], to = [100000, 100000], height = 100000, points = [1, 1] } > 7 Outside task
+version = 2; lamp = [{ at = [0, 0, 0], candela = 1, aim = '-z' }]; limits > accepted
+version = 2; lamp = [{ at = [0, 0, 0], candela = 1, aim = '+z' }]; limits > accepted
+version = 2; lamp = [{ at = [0, 0, 0], candela = 1, aim = '-x' }]; limits > accepted
+version = 2; lamp = [{ at = [0, 0, 0], candela = 1, aim = '+x' }]; limits > accepted
+version = 2; lamp = [{ at = [0, 0, 0], candela = 1, aim = '-y' }]; limits > accepted
+version = 2; lamp = [{ at = [0, 0, 0], file = 'a', aim = '+y' }]; limits > accepted
+version = 2; lamp = [{ at = [0, 0, 0], candela = 1, aim = '-Z' }] > 6 Range lamp.aim 0
+version = 2; lamp = [{ at = [0, 0, 0], candela = 1, aim = 'x' }] > 6 Range lamp.aim 0
+version = 2; lamp = [{ at = [0, 0, 0], candela = 1, aim = '' }] > 6 Range lamp.aim 0
+version = 2; lamp = [{ at = [0, 0, 0], candela = 1, aim = '-z ' }] > 6 Range lamp.aim 0
+version = 2; lamp = [{ at = [0, 0, 0], candela = 1 }, { at = [0, 0, 0], candela = 1, aim = 1 }] > 5 Kind lamp.aim 1
+version = 2; lamp = [{ at = [0, 0, 0], aim = '-Z', split = 1 }] > 5 Kind lamp.split 0
+version = 2; lamp = [{ at = [0, 0, 0], aim = '-Z' }] > 6 Range lamp.aim 0
+version = 2; lamp = [{ at = [0, 0, 0], candela = 1, aims = '-z' }] > 4 Unknown lamp 0
+version = 2; lamp = [{ at = [0, 300, 150], candela = 1, size = [600, 300], aim = '+x' }]; limits > accepted
+version = 2; lamp = [{ at = [0, 299, 150], candela = 1, size = [600, 300], aim = '+x' }] > 7 Outside lamp 0
+version = 2; lamp = [{ at = [0, 300, 149], candela = 1, size = [600, 300], aim = '+x' }] > 7 Outside lamp 0
+version = 2; lamp = [{ at = [6000, 4700, 2850], candela = 1, size = [600, 300], aim = '-x' }]; limits > accepted
+version = 2; lamp = [{ at = [6000, 4701, 2850], candela = 1, size = [600, 300], aim = '-x' }] > 7 Outside lamp 0
+version = 2; lamp = [{ at = [6000, 4700, 2851], candela = 1, size = [600, 300], aim = '-x' }] > 7 Outside lamp 0
+version = 2; lamp = [{ at = [300, 0, 150], candela = 1, size = [600, 300], aim = '+y' }]; limits > accepted
+version = 2; lamp = [{ at = [299, 0, 150], candela = 1, size = [600, 300], aim = '+y' }] > 7 Outside lamp 0
+version = 2; lamp = [{ at = [5700, 5000, 2850], candela = 1, size = [600, 300], aim = '-y' }]; limits > accepted
+version = 2; lamp = [{ at = [5700, 5000, 2851], candela = 1, size = [600, 300], aim = '-y' }] > 7 Outside lamp 0
+version = 2; lamp = [{ at = [300, 150, 3000], candela = 1, size = [600, 300], aim = '+z' }]; limits > accepted
+version = 2; lamp = [{ at = [300, 149, 3000], candela = 1, size = [600, 300], aim = '+z' }] > 7 Outside lamp 0
 task > 3 Missing task
 task = 1 > 5 Kind task
 task = { colour = 1 } > 4 Unknown task
