@@ -8,7 +8,7 @@ use Rattle.claim_file.specs.declared.entry.Entry.{Entry}
 use Rattle.claim_file.specs.declared.fault.ClaimFault.{ClaimFault}
 use Rattle.claim_file.specs.declared.fault.ClaimFault.TheVariants as fault
 use Rattle.claim_file.specs.Claims.{Claim, claim_from, claim_with, entries_of, entry_in, entry_of}
-use Rattle.claim_file.specs.Steps.{◌>>=◌}
+use Rattle.decimal_text.specs.Steps.{◌>>=◌}
 
 -- the bounds of these patches behind those
 abbrev pub behind : List Tick → List Tick → Result (List Entry) ClaimFault → Result Claim ClaimFault

@@ -11,21 +11,18 @@ use Rattle.fx_base.specs.Bound.{IsEnd}
 use Rattle.fx_base.specs.Units.{natural}
 use Rattle.fx_base.specs.declared.Tick.{Tick}
 use Rattle.fx_base.proofs.Rounding.{natural_most}
+use Rattle.decimal_text.specs.Steps.{◌>>=◌, demand}
+use Rattle.decimal_text.proofs.Steps.{both_gave}
 use Rattle.claim_file.specs.declared.entry.Entry.{Entry}
 use Rattle.claim_file.specs.declared.fault.ClaimFault.{ClaimFault}
 use Rattle.claim_file.specs.declared.fault.ClaimFault.TheVariants as fault
 use Rattle.claim_file.specs.Numbers.{number}
-use Rattle.claim_file.specs.Steps.{◌>>=◌, demand, or_fault}
-use Rattle.claim_file.specs.Claims.{Claim, claim_after, claim_from, claim_of, claim_with, entries_of, entry_in, entry_of, is_end, tick}
+use Rattle.claim_file.specs.Claims.{Claim, or_fault, claim_after, claim_from, claim_of, claim_with, entries_of, entry_in, entry_of, is_end, tick}
 use Rattle.claim_file.specs.Written.{digits_of}
 use Rattle.claim_file.proofs.Decimals.{number-decimal, number_is}
 use Rattle.claim_file.specs.Fits.{AreRows, ClaimIsRead, IsClaimText, IsRow}
 
 -- ---- steps that gave something
-
-gave : {A B E : Type 0} (r : Result A E) (f : A → Result B E) (y : B) → (r >>= f) ≡ Ok y → (x : A) × (r ≡ Ok x) × (f x ≡ Ok y)
-gave (Ok x) f y h = (x, refl, h)
-gave (Err e) f y h = cc h
 
 held : {A E : Type 0} (b : Bool) (e : E) (r : Result A E) (y : A) → (demand b e >>= λ u. r) ≡ Ok y → (b ≡ true) × (r ≡ Ok y)
 held true e r y h = (refl, h)
@@ -170,8 +167,8 @@ fits_rows patches width n [] [] few h =
     (omega arith, tt)
 fits_rows patches width n [] (e ∷ es) few h = cc (held (n == patches) fault.Count (Ok []) (e ∷ es) h).1
 fits_rows patches width n (fields ∷ rows) es few h =
-    let a = gave (entry_of patches width n fields) (λ entry. entries_of patches width (n + 1) rows >>= λ entries. Ok (entry ∷ entries)) es h in
-    let b = gave (entries_of patches width (n + 1) rows) (λ entries. Ok (a.0 ∷ entries)) es a.2 in
+    let a = both_gave (entry_of patches width n fields) (λ entry. entries_of patches width (n + 1) rows >>= λ entries. Ok (entry ∷ entries)) es h in
+    let b = both_gave (entries_of patches width (n + 1) rows) (λ entries. Ok (a.0 ∷ entries)) es a.2 in
     let first = entry_fits patches width n fields a.0 few a.1 in
     let more = fits_rows patches width (n + 1) rows b.0 few b.1 in
     let size : (n + 1) + length rows ≡ patches = more.0 in
@@ -192,7 +189,7 @@ from_fits : (patches width : ℕ) (rows : List (List (List ℕ))) (claim : Claim
     → (es : List Entry) × (length rows ≡ patches) × AreRows width 0 rows es × (claim ≡ claim_with es)
 unfolding claim_from
 from_fits patches width rows claim few h =
-    let a = gave (entries_of patches width 0 rows) (λ entries. Ok (claim_with entries)) claim h in
+    let a = both_gave (entries_of patches width 0 rows) (λ entries. Ok (claim_with entries)) claim h in
     let f = fits_rows patches width 0 rows a.0 few a.1 in
     let size : 0 + length rows ≡ patches = f.0 in
     (a.0, omega arith, f.1, same_claim (claim_with a.0) claim a.2)

@@ -1,5 +1,5 @@
 -- What a claim file says, and why it is refused.
-use Rattle.std.specs.Prelude.{ℕ, ◌+◌, ◌^◌, ◌==◌, Bool, ◌&&◌, nat_le, nat_lt, List, [], ◌∷◌, length, map, pos, Option, Result, Ok}
+use Rattle.std.specs.Prelude.{ℕ, ◌+◌, ◌^◌, ◌==◌, Bool, ◌&&◌, nat_le, nat_lt, List, [], ◌∷◌, length, map, pos, Option, Some, None, Result, Ok, Err}
 use Rattle.std.specs.Option.{option_and_then}
 use Rattle.csv.specs.Reading.{default_config, records, strip_bom}
 use Rattle.csv.specs.Records.{field_at}
@@ -8,7 +8,12 @@ use Rattle.claim_file.specs.declared.entry.Entry.{Entry}
 use Rattle.claim_file.specs.declared.fault.ClaimFault.{ClaimFault}
 use Rattle.claim_file.specs.declared.fault.ClaimFault.TheVariants as fault
 use Rattle.claim_file.specs.Numbers.{number}
-use Rattle.claim_file.specs.Steps.{◌>>=◌, demand, or_fault}
+use Rattle.decimal_text.specs.Steps.{◌>>=◌, demand}
+
+-- what there is, or the fault where there is nothing
+abbrev pub or_fault : {A E : Type 0} → E → Option A → Result A E
+or_fault e None = Err e
+or_fault e (Some x) = Ok x
 
 -- a lower and an upper bound for the light of each patch, in ticks of 2^-36 lux
 pub record Claim : Type 0 where

@@ -4,7 +4,6 @@ pub mod FaultText
 pub mod Fits
 pub mod Numbers
 pub mod Rows
-pub mod Steps
 pub mod Writers
 pub mod Written
 mod ClaimTests

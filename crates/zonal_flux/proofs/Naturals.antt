@@ -3,6 +3,7 @@ use Rattle.std.proofs.Common.{ℕ, ◌+◌, ◌<◌, ◌≤◌, ◌≡◌, ℤ, 
 use Rattle.std.proofs.lemmas.Int.{ints}
 use Rattle.fx_base.specs.Ends.{IsWithin}
 use Rattle.fx_base.specs.Units.{natural}
+use Rattle.fx_base.proofs.Rounding.{natural-mono}
 
 pub natural_plus : (a b : ℤ) → pos 0 ≤ℤ a → pos 0 ≤ℤ b → natural (a +ℤ b) ≡ natural a + natural b
 natural_plus (pos m) (pos n) h g = omega (arith, ints)
@@ -17,11 +18,6 @@ pub natural_width : (w : ℕ) (a b : ℤ) → pos 0 ≤ℤ a → b ≤ℤ (a +�
 natural_width w (pos m) (pos n) h g = omega (arith, ints)
 natural_width w (pos m) (negsuc n) h g = omega arith
 natural_width w (negsuc m) b h g = absurd (omega (arith, ints))
-
-pub natural_le : (a b : ℤ) → pos 0 ≤ℤ a → a ≤ℤ b → natural a ≤ natural b
-natural_le (pos m) (pos n) h g = omega (arith, ints)
-natural_le (pos m) (negsuc n) h g = absurd (omega (arith, ints))
-natural_le (negsuc m) b h g = absurd (omega (arith, ints))
 
 pub high_not_negative : (a b : ℤ) → pos 0 ≤ℤ a → a ≤ℤ b → pos 0 ≤ℤ b
 high_not_negative a b h g = omega (arith, ints)
@@ -47,4 +43,4 @@ is_within n (negsuc m) h g = absurd (omega (arith, ints))
 
 -- a lower end is at most an upper one that isn't negative
 pub low_within : (n : ℕ) (a b : ℤ) → pos 0 ≤ℤ a → a ≤ℤ b → natural b ≤ n → natural a ≤ n
-low_within n a b h g k = let e = natural_le a b h g in omega arith
+low_within n a b h g k = let e = natural-mono a b h g in omega arith

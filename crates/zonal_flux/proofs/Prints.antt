@@ -9,7 +9,7 @@ use Rattle.fx_base.specs.Units.{natural, of_span}
 use Rattle.fx_base.proofs.Hundredths.{hundredths_under, hundredths_over, hundredths_under_near, hundredths_over_near}
 use Rattle.fx_base.proofs.Near.{lies_in_refl, meets_sym, meets_wider}
 use Rattle.fx_base.proofs.Order.{le_refl_f, le_trans_f, le_of_eq_f, add_le_f, add_comm_f, add_right_f, sub_le_f, sub_back_f}
-use Rattle.fx_base.proofs.Rounding.{quotients-in_order}
+use Rattle.fx_base.proofs.Rounding.{quotients-in_order, natural-mono}
 use Rattle.limit_verdict.specs.Verdicts.{verdict}
 use Rattle.limit_verdict.specs.declared.verdict.Verdict.TheVariants.{Met, Missed, Undecided}
 use Rattle.photo_table.specs.Exact.{rounded}
@@ -18,7 +18,6 @@ use Rattle.photo_table.proofs.Exactly.{rounds_to_next_tick}
 use Rattle.zonal_flux.specs.Fluxes.{down, up, total, allowance, LiesWithin, IsFlux}
 use Rattle.zonal_flux.specs.Printed.{printed_lo, printed_hi}
 use Rattle.zonal_flux.specs.Laws.{printed, IsRight, IsVerdictOn, RoundedHoldsExact, FluxTextIsRight}
-use Rattle.zonal_flux.proofs.Naturals.{natural_le}
 
 -- ---- the exact table
 
@@ -94,7 +93,7 @@ is_verdict lumens lo hi h =
 
 printed_in_order : (s : Ends) → pos 0 ≤ℤ s.lo → s.lo ≤ℤ s.hi → printed_lo s ≤ printed_hi s
 printed_in_order s low order =
-    let g = natural_le s.lo s.hi low order in
+    let g = natural-mono s.lo s.hi low order in
     quotients-in_order (natural s.lo * 100) 68719476736 (natural s.hi * 100) 68719476736 (omega (arith, g)) (omega arith) (omega arith)
 
 -- ---- the text

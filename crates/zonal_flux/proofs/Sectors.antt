@@ -7,12 +7,12 @@ use Rattle.fx_base.specs.Ends.{Ends, IsWithin}
 use Rattle.fx_base.specs.Fraction.{Fraction, ◌≤ᶠ◌, ◌+ᶠ◌, ◌*ᶠ◌, ratio, whole, sum_to}
 use Rattle.fx_base.specs.Units.{natural, ticks}
 use Rattle.fx_base.proofs.Order.{le_refl_f, le_trans_f, add_le_f, add_pairs_f, add_right_f, mul_le_f, mul_add_f}
-use Rattle.fx_base.proofs.Rounding.{ceil_above, ceil_below, quotients-in_order}
+use Rattle.fx_base.proofs.Rounding.{ceil_above, ceil_below, quotients-in_order, natural-mono}
 use Rattle.fx_base.proofs.Sums.{ticks_join}
 use Rattle.photo_table.specs.Table.{Table, IsTable, plane}
 use Rattle.zonal_flux.specs.Fluxes.{half_sector, part, mean}
 use Rattle.zonal_flux.specs.Steps.{spread, IsInPlane, IsMean, IsRounded, IsSpread, IsSector, AreSectors}
-use Rattle.zonal_flux.proofs.Naturals.{natural_plus, natural_le, plus_not_negative, high_not_negative, plus_in_order, pos_le, is_within}
+use Rattle.zonal_flux.proofs.Naturals.{natural_plus, plus_not_negative, high_not_negative, plus_in_order, pos_le, is_within}
 use Rattle.zonal_flux.proofs.Planes.{first_is_least, plane_after, plane_width, whole_turn}
 
 -- ---- ticks times millionths of a degree
@@ -73,7 +73,7 @@ sector_is p k i v near far both s width n f bl bh sl sh =
     let both_hi : natural both.hi ≡ nh + fh = ap natural bh ∙ natural_plus near.hi far.hi n_high f_high in
     let lo : s.lo ≡ pos ((nl + fl) * w) = sl ∙ ap pos (by_one (natural both.lo * v) ∙ times_same (natural both.lo) (nl + fl) v w both_lo width) in
     let hi : s.hi ≡ pos ((nh + fh) * w) = sh ∙ ap pos (up_by_one (natural both.hi * v) ∙ times_same (natural both.hi) (nh + fh) v w both_hi width) in
-    let order = plus_le nl nh fl fh (natural_le near.lo near.hi n.not_negative n.in_order) (natural_le far.lo far.hi f.not_negative f.in_order) in
+    let order = plus_le nl nh fl fh (natural-mono near.lo near.hi n.not_negative n.in_order) (natural-mono far.lo far.hi f.not_negative f.in_order) in
     let n_bright = n.bright in
     let f_bright = f.bright in
     rw (lo, hi) (record {
@@ -117,7 +117,7 @@ spread_within p w lo hi s h q =
 
 pub spread_fits_low : (p : Table) (w : ℕ) (lo hi : Fraction) (s : Ends) → IsSpread p w lo hi s → w ≤ 360000000 → IsWithin (2 ^ 125) s.lo
 spread_fits_low p w lo hi s h q =
-    is_within (2 ^ 125) s.lo h.not_negative (let g = spread_within p w lo hi s h q in let o = natural_le s.lo s.hi h.not_negative h.in_order in omega (arith, g, o))
+    is_within (2 ^ 125) s.lo h.not_negative (let g = spread_within p w lo hi s h q in let o = natural-mono s.lo s.hi h.not_negative h.in_order in omega (arith, g, o))
 
 pub spread_fits_high : (p : Table) (w : ℕ) (lo hi : Fraction) (s : Ends) → IsSpread p w lo hi s → w ≤ 360000000 → IsWithin (2 ^ 125) s.hi
 spread_fits_high p w lo hi s h q =
@@ -218,7 +218,7 @@ mean_of : (p : Table) (n k : ℕ) (s : Ends) → AreSectors p k n s → plane p 
 mean_of p n k s g turn =
     let W : ℕ → Type 0 = λ w. IsSpread p w (sum_to n (λ j. (part p k j).lo)) (sum_to n (λ j. (part p k j).hi)) s in
     let h = subst W turn g in
-    let order = natural_le s.lo s.hi h.not_negative h.in_order in
+    let order = natural-mono s.lo s.hi h.not_negative h.in_order in
     let bright = h.bright in
     record {
       low = le_trans_f (divided_low (natural s.lo)) h.low;

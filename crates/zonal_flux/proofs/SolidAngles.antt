@@ -11,7 +11,7 @@ use Rattle.fx_base.specs.Units.{natural, ticks, of_span}
 use Rattle.fx_base.proofs.Order.{le_refl_f, le_trans_f, mul_le_f, sub_mono_f}
 use Rattle.fx_base.proofs.Sums.{ticks_back, whole_ticks, ticks_sub_split, ticks_sub_join, ticks_times_low}
 use Rattle.fx_base.proofs.SpanSteps.{product_up}
-use Rattle.fx_base.proofs.Rounding.{ceil_below, quotients-in_order}
+use Rattle.fx_base.proofs.Rounding.{ceil_below, quotients-in_order, natural-mono}
 use Rattle.fx_base.proofs.Truth.{le_true, le_false}
 use Rattle.series_enclose.specs.Enclosed.{IsSine, IsCosine}
 use Rattle.series_enclose.specs.Series.{pi}
@@ -19,7 +19,7 @@ use Rattle.series_enclose.proofs.PiLaws.{pi_at_most_four}
 use Rattle.series_enclose.proofs.Sizes.{sine_below, cosine_below}
 use Rattle.zonal_flux.specs.Zones.{cosine_at, twice, difference, product, below, constant, IsConstant}
 use Rattle.zonal_flux.specs.Steps.{IsCosineAt, IsTwoPi}
-use Rattle.zonal_flux.proofs.Naturals.{natural_le, natural_width}
+use Rattle.zonal_flux.proofs.Naturals.{natural_width}
 
 -- ---- cosines
 
@@ -58,7 +58,7 @@ unfolding twice
 two_pi_is p s meets narrow low order e f =
     let w = natural_width 1 p.lo p.hi low narrow in
     let four = pi_below_four p meets in
-    let o = natural_le p.lo p.hi low order in
+    let o = natural-mono p.lo p.hi low order in
     record {
       meets = λ n. rw (e, f) (record {
         above = le_trans_f (double_split (natural p.lo)) (mul_le_f (le_refl_f (whole 2)) (meets n).above);
@@ -123,8 +123,8 @@ constant_is k b p i o d s same two inner outer dl dh order sl sh =
     let w = product_width (natural p.lo) (natural p.hi) (natural d.lo) (natural d.hi) wp (omega arith) (omega arith) (omega arith) in
     let m = product_most (natural p.hi) (natural d.hi) hp (omega arith) in
     let c = ceil_below (natural p.hi * natural d.hi) 68719476736 (omega arith) in
-    let op : natural p.lo ≤ natural p.hi = natural_le p.lo p.hi two.low two.in_order in
-    let od : natural d.lo ≤ natural d.hi = natural_le d.lo d.hi (rw dl (omega (arith, ints))) order in
+    let op : natural p.lo ≤ natural p.hi = natural-mono p.lo p.hi two.low two.in_order in
+    let od : natural d.lo ≤ natural d.hi = natural-mono d.lo d.hi (rw dl (omega (arith, ints))) order in
     let q = quotients-in_order (natural p.lo * natural d.lo) 68719476736 (natural p.hi * natural d.hi) 68719476736 (mul-le-mul op od) (omega arith) (omega arith) in
     record {
       meets = λ n. rw (← same) (product_meets p d s (twice (pi n)) (difference (cosine_at n (5 * b)) (cosine_at n (5 * b + 5))) (two.meets n)

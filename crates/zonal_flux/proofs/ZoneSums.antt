@@ -8,14 +8,14 @@ use Rattle.fx_base.specs.Fraction.{Fraction, ◌≤ᶠ◌, ◌+ᶠ◌, ◌*ᶠ�
 use Rattle.fx_base.specs.Interval.{Interval}
 use Rattle.fx_base.specs.Units.{natural, ticks}
 use Rattle.fx_base.proofs.Order.{le_refl_f, le_trans_f, add_le_f, add_pairs_f, mul_le_f, sub_le_f, zero_le_f}
-use Rattle.fx_base.proofs.Rounding.{ceil_below, quotients-in_order}
+use Rattle.fx_base.proofs.Rounding.{ceil_below, quotients-in_order, natural-mono}
 use Rattle.fx_base.proofs.SpanSteps.{product_up}
 use Rattle.fx_base.proofs.Sums.{no_ticks, ticks_le, ticks_split, ticks_join, ticks_sub_split, ticks_times_low}
 use Rattle.photo_table.specs.Table.{Table, IsTable}
 use Rattle.zonal_flux.specs.Zones.{product, IsConstant}
 use Rattle.zonal_flux.specs.Fluxes.{into_zone, into_zones, down, up, total, allowance, IsFlux}
 use Rattle.zonal_flux.specs.Steps.{slack, IsMean, IsLoose, IsSoFar}
-use Rattle.zonal_flux.proofs.Naturals.{natural_plus, natural_le, natural_width, plus_not_negative, high_not_negative, plus_in_order, pos_le, is_within}
+use Rattle.zonal_flux.proofs.Naturals.{natural_plus, natural_width, plus_not_negative, high_not_negative, plus_in_order, pos_le, is_within}
 use Rattle.zonal_flux.proofs.Within.{mean_meets}
 
 -- ---- one zone
@@ -53,8 +53,8 @@ zone_is p h k m c z mean_of constant_of e f =
     let lo : natural z.lo ≡ a * b / 68719476736 = ap natural e in
     let hi : natural z.hi ≡ div_ceil (u * v) 68719476736 = ap natural f in
     let wide = natural_width 1024 c.lo c.hi constant_of.low constant_of.narrow in
-    let m_order = natural_le m.lo m.hi mean_of.not_negative mean_of.in_order in
-    let c_order = natural_le c.lo c.hi constant_of.low constant_of.in_order in
+    let m_order = natural-mono m.lo m.hi mean_of.not_negative mean_of.in_order in
+    let c_order = natural-mono c.lo c.hi constant_of.low constant_of.in_order in
     let c_high = constant_of.high in
     let m_high = mean_of.bright in
     record {
@@ -139,7 +139,7 @@ more_zones p first i k s t r at g h e f =
 pub zones_fit_low : (p : Table) (flux : ℕ → Table → Interval) (i : ℕ) (s : Ends) → IsLoose p flux i s → i ≤ 36 → IsWithin (2 ^ 125) s.lo
 zones_fit_low p flux i s h q =
     is_within (2 ^ 125) s.lo h.not_negative
-    (let g = h.high in let o = natural_le s.lo s.hi h.not_negative h.in_order in omega (arith, g, o))
+    (let g = h.high in let o = natural-mono s.lo s.hi h.not_negative h.in_order in omega (arith, g, o))
 
 pub zones_fit_high : (p : Table) (flux : ℕ → Table → Interval) (i : ℕ) (s : Ends) → IsLoose p flux i s → i ≤ 36 → IsWithin (2 ^ 125) s.hi
 zones_fit_high p flux i s h q =
