@@ -57,7 +57,7 @@ cut_short longest edge k i p h =
 pub middle_within : (d n i : ℕ) → i < n → (2 * i + 1) * d / n ≤ 2 * d
 middle_within d n i h = div-le_of_le-mul n (let g : 2 * i + 1 ≤ 2 * n = omega arith in omega (arith, mul-le-mul_left d g))
 
-pub middle_small : (d i : ℕ) → i < 1024 → d ≤ 50000 → (2 * i + 1) * d < 4294967296
+pub middle_small : (d i : ℕ) → i < 1024 → d ≤ 100000 → (2 * i + 1) * d < 4294967296
 middle_small d i h g = let k : 2 * i + 1 ≤ 2047 = omega arith in omega (arith, mul-le-mul_left d k)
 
 pub factor_few : (x y : ℕ) → 1 ≤ y → x * y ≤ 1024 → x ≤ 1024

@@ -237,15 +237,15 @@ points_fit r v h e = subst (λ (xs : List TaskPoint). All (IsTaskPointIn r.size)
 
 -- ---- in the largest room
 
--- a number at most twice an edge of 50 m
-le_trans_z : (z : ℤ) (edge : ℕ) → edge ≤ 50000 → z ≤ℤ pos (2 * edge) → z ≤ℤ pos (2 * 100000)
+-- a number at most twice an edge of 100 m
+le_trans_z : (z : ℤ) (edge : ℕ) → edge ≤ 100000 → z ≤ℤ pos (2 * edge) → z ≤ℤ pos (2 * 100000)
 le_trans_z (pos n) edge h g = omega (arith, ints)
 le_trans_z (negsuc n) edge h g = omega (arith, ints)
 
 point_reaches : (room : Size) (p : Point) → IsRoomSize room → IsPointIn room p → IsPointIn largest_room p
 point_reaches room p r h = record { x = reach room.x p.x r.x.1 h.x; y = reach room.y p.y r.y.1 h.y; z = reach room.z p.z r.z.1 h.z }
   where
-    reach : (edge : ℕ) (z : ℤ) → edge ≤ 50000 → IsAlong edge z → IsAlong 100000 z
+    reach : (edge : ℕ) (z : ℤ) → edge ≤ 100000 → IsAlong edge z → IsAlong 100000 z
     reach edge z most (low, high) = (low, le_trans_z z edge most high)
 
 patch_reaches : (room : Size) → IsRoomSize room → (p : Patch) → IsPatchIn room p → IsPatchIn largest_room p

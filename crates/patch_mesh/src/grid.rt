@@ -15,7 +15,7 @@ use std::alloc::Global;
 #[tactic(auto, using(crate::proofs::CutLaws::middles))]
 fn middle_of(from: u32, to: u32, parts: u32, i: u32) -> u32
     requires edge { from ≤ to }
-    requires most { to ≤ 50000 }
+    requires most { to ≤ 100000 }
     requires parts { parts ≤ 1024 }
     requires part { i < parts }
     ensures middle { result ≡ middle_of_part from to parts i }

@@ -96,6 +96,17 @@ fn fine_channel_has_672_patches_and_the_50_m_cube_is_refused(rt: HostRuntime) {
     assert_eq!(rt; count(rt.alloc(), 50_000, 50_000, 50_000, 1_000), 15_000);
 }
 
+// Of the cube of 100 m each surface has 2 * 2 patches of 50 m, or 2,000 * 2,000 of 50 mm. An edge of 50,001 mm has two parts.
+#[test]
+fn rooms_of_100_m_have_two_patches_of_50_m_along_each_edge(rt: HostRuntime) {
+    assert_eq!(rt; count(rt.alloc(), 100_000, 100_000, 100_000, 50_000), 24);
+    assert_eq!(rt;
+        count(rt.alloc(), 100_000, 100_000, 100_000, 50),
+        24_000_000
+    );
+    assert_eq!(rt; count(rt.alloc(), 50_001, 50_000, 500, 50_000), 10);
+}
+
 /// Centres in half mm, areas in square mm and reflectances of patches, with where they face.
 fn is_list(patches: &[Patch], wanted: &[(i32, i32, i32, Face, u64, u16)]) -> bool {
     patches.len() == wanted.len()
@@ -166,6 +177,56 @@ fn task_points_go_by_row_then_by_column(rt: HostRuntime) -> Result<(), Fail> {
         (3333, 1750, 1500),
     ];
     assert!(rt; are_open_points(&points, &wanted));
+    Ok(())
+}
+
+/// A room of 100 m along x and y and 50,001 mm along z at the longest patch edge, with its task points in one row at its far end.
+fn widest_room(alloc: Global) -> Room
+    ensures { IsAccepted result }
+{
+    let task = grid((0, 99_998), (100_000, 100_000), 50_001, (1024, 1));
+    room_of(
+        alloc,
+        at(100_000, 100_000, 50_001),
+        50_000,
+        Vec::new(alloc),
+        task,
+    )
+}
+
+#[test]
+fn the_patches_of_a_room_of_100_m(rt: HostRuntime) -> Result<(), Fail> {
+    let patches = mesh(rt.alloc(), &widest_room(rt.alloc()))
+        .ok()
+        .ok_or("mesh")?;
+    let ceiling = [
+        (50_000, 50_000, 100_002, Face::Down, 2_500_000_000, 520),
+        (150_000, 50_000, 100_002, Face::Down, 2_500_000_000, 520),
+        (50_000, 150_000, 100_002, Face::Down, 2_500_000_000, 520),
+        (150_000, 150_000, 100_002, Face::Down, 2_500_000_000, 520),
+    ];
+    // 50,001 mm in parts of 25,000 and 25,001
+    let south = [
+        (50_000, 200_000, 25_000, Face::South, 1_250_000_000, 560),
+        (150_000, 200_000, 25_000, Face::South, 1_250_000_000, 560),
+        (50_000, 200_000, 75_001, Face::South, 1_250_050_000, 560),
+        (150_000, 200_000, 75_001, Face::South, 1_250_050_000, 560),
+    ];
+    assert_eq!(rt; patches.len(), 24);
+    assert!(rt; is_list(&patches[4..8], &ceiling));
+    assert!(rt; is_list(&patches[20..], &south));
+    Ok(())
+}
+
+// (2 i + 1) * 100,000 / 1,024, rounded down
+#[test]
+fn the_task_points_of_a_room_of_100_m(rt: HostRuntime) -> Result<(), Fail> {
+    let points = task_points(rt.alloc(), &widest_room(rt.alloc()))
+        .ok()
+        .ok_or("points")?;
+    let last = [(199_707, 199_998, 100_002), (199_902, 199_998, 100_002)];
+    assert_eq!(rt; points.len(), 1024);
+    assert!(rt; are_open_points(&points[1022..], &last));
     Ok(())
 }
 
