@@ -144,11 +144,14 @@ fn opposite(edge: i32, margin: i32, area: u64) -> Weight
     factor(&floor, &ceiling, true)
 }
 
-// 0.95 * (d**2 / R) * A / (pi * R + A): mpmath at 60 digits, floor(x * 2**36), with d = 100,000, R = 2 (d - 2 m)**2 + d**2.
+// 0.95 * (d**2 / R) * A / (pi * R + A): mpmath at 60 digits, floor(x * 2**36), with d the edge and R = 2 (d - 2 m)**2 + d**2.
 #[test]
-fn the_farthest_pairs_of_a_room_of_50_m_and_the_nearest_of_100_m(rt: HostRuntime) {
+fn the_farthest_pairs_of_rooms_of_50_m_and_100_m_and_the_nearest(rt: HostRuntime) {
     assert!(rt; holds(opposite(100_000, 1_000, 1_000_000), 974_296));
     assert!(rt; holds(opposite(100_000, 50, 2_500), 2_315));
+    assert!(rt; holds(opposite(200_000, 1_000, 1_000_000), 237_141));
+    assert!(rt; holds(opposite(200_000, 50, 2_500), 578));
+    assert!(rt; holds(opposite(200_000, 50_000, 2_500_000_000), 2_192_610_023));
     assert!(rt; holds(opposite(200_000, 100_000, 10_000_000_000), 15_762_898_082));
 }
 
