@@ -79,7 +79,7 @@ def read_claim(data, count):
 
 Box = namedtuple("Box", "lo hi")
 Patch = namedtuple("Patch", "centre face area reflect")
-LampPoint = namedtuple("LampPoint", "at shine turn share")
+LampPoint = namedtuple("LampPoint", "at shine frame turn share")
 
 
 def half_mm(place):
@@ -165,10 +165,10 @@ def lamp_points(lamps, folder):
             if key not in files:
                 files[key] = read_lamp(key[0], Path(folder, key[0]).read_bytes(), key[1])
             shine = files[key]
-        # their places alone, for which no file is read
-        places = [source.at for source in sources([lamp | {"candela": 0}], folder)]
+        # their places and frames alone, for which no file is read
+        places = list(sources([lamp | {"candela": 0}], folder))
         share = Fraction(lamp.get("maintenance", 1000), 1000 * len(places))
-        yield from (LampPoint(half_mm(at), shine, lamp.get("turn", 0), share) for at in places)
+        yield from (LampPoint(half_mm(source.at), shine, source.frame, source.turn, share) for source in places)
 
 
 @cache
@@ -200,12 +200,12 @@ def candidates(angle):
 
 
 def candela_ends(lamp, p):
-    """The least and the greatest intensity towards p over the brackets of both angles. C is counted from +x less the lamp's turn,
-    gamma from straight down; straight up or down C is 0."""
+    """The least and the greatest intensity towards p over the brackets of both angles. C is counted from where C 0 lies less the
+    lamp's turn, gamma from the aim; along the aim's axis C is 0."""
     if isinstance(lamp.shine, int):
         return lamp.shine, lamp.shine
     with localcontext(prec=50):
-        x, y, z = (Decimal(b - a) for a, b in zip(lamp.at, p))
+        x, y, z = (Decimal(sign * (p[axis] - lamp.at[axis])) for axis, sign in lamp.frame)
         cs = [c % 360 for c in candidates(degrees(x, y) - lamp.turn)] if x or y else [Fraction(0)]
         gamma = degrees(-z, (x * x + y * y).sqrt())
     seen = [lamp.shine.intensity(c, g) for g in candidates(gamma) if 0 <= g <= 180 for c in cs]

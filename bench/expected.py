@@ -4,9 +4,9 @@
 usage: expected.py ROOM.toml
 
 It cuts the room and its boxes into patches, solves the radiosity equations by Gauss-Seidel until nothing moves by more than
-1e-10 lux, and prints the value at each task point, the average and the uniformity with six decimals. It serves the whole layout but
-limits. Photometric files lie where their names lead from the room's folder, and photometry.py reads them. It claims nothing of its
-own rounding, which is far below a printed hundredth.
+1e-10 lux, and prints the value at each task point, the average and the uniformity with six decimals. It serves both versions of the
+layout, but no limits. Photometric files lie where their names lead from the room's folder, and photometry.py reads them. It claims
+nothing of its own rounding, which is far below a printed hundredth.
 """
 import math
 import sys
@@ -84,23 +84,34 @@ def coefficient(boxes, p, face, patch):
     return reflect / 1000 * a * b / square * area / (math.pi * square + area)
 
 
+# For each aim the axes that span a lamp's rectangle, and where C 0, C 90 and what is opposite to gamma 0 lie: axis and sign.
+AIMS = {
+    "-z": ((0, 1), ((0, 1), (1, 1), (2, 1))),
+    "+z": ((0, 1), ((0, 1), (1, -1), (2, -1))),
+    "+x": ((1, 2), ((1, 1), (2, -1), (0, -1))),
+    "-x": ((1, 2), ((1, 1), (2, 1), (0, 1))),
+    "+y": ((0, 2), ((0, 1), (2, 1), (1, -1))),
+    "-y": ((0, 2), ((0, 1), (2, -1), (1, 1))),
+}
+
+
 class Source:
     """One point of a lamp, in mm, and what it shines."""
 
-    def __init__(self, at, shine, turn, share):
-        self.at, self.shine, self.turn, self.share = at, shine, turn, share
+    def __init__(self, at, shine, frame, turn, share):
+        self.at, self.shine, self.frame, self.turn, self.share = at, shine, frame, turn, share
 
     def candela(self, p):
-        """Towards p. Gamma is counted from straight down, C from +x less the lamp's turn; straight up or down C is 0."""
+        """Towards p. Gamma is counted from the aim, C from where C 0 lies less the lamp's turn; along the aim's axis C is 0."""
         if isinstance(self.shine, int):
             return self.shine * self.share
-        x, y, z = (b - a for a, b in zip(self.at, p))
+        x, y, z = (sign * (p[axis] - self.at[axis]) for axis, sign in self.frame)
         c = (math.degrees(math.atan2(y, x)) - self.turn) % 360 if x or y else 0.0
         return self.shine.intensity(c, math.degrees(math.atan2(math.hypot(x, y), -z))) * self.share
 
 
 def sources(lamps, folder):
-    """The points of all lamps. A lamp's rectangle lies along the room's axes, whatever its turn; half mm are rounded down."""
+    """The points of all lamps. A lamp's rectangle lies along the axes across its aim, whatever its turn; half mm are rounded down."""
     files = {}
     for lamp in lamps:
         shine = lamp.get("candela")
@@ -110,12 +121,14 @@ def sources(lamps, folder):
                 files[key] = read_lamp(key[0], Path(folder, key[0]).read_bytes(), key[1]).in_floats()
             shine = files[key]
         (wide, deep), (columns, rows) = lamp.get("size", [0, 0]), lamp.get("split", [1, 1])
-        x, y, z = lamp["at"]
+        (u, v), frame = AIMS[lamp.get("aim", "-z")]
         share = lamp.get("maintenance", 1000) / 1000 / (columns * rows)
         for j in range(rows):
             for i in range(columns):
-                at = (2 * x - wide + (2 * i + 1) * wide // columns) / 2, (2 * y - deep + (2 * j + 1) * deep // rows) / 2, float(z)
-                yield Source(at, shine, lamp.get("turn", 0), share)
+                at = [float(n) for n in lamp["at"]]
+                at[u] += ((2 * i + 1) * wide // columns - wide) / 2
+                at[v] += ((2 * j + 1) * deep // rows - deep) / 2
+                yield Source(at, shine, frame, lamp.get("turn", 0), share)
 
 
 def direct(boxes, lights, p, face):
