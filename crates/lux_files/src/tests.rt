@@ -1,4 +1,5 @@
 //! Whole runs over the files and the output that stand in for the real ones.
+mod aims;
 mod claims;
 mod faults;
 mod fluxes;

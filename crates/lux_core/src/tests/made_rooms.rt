@@ -3,7 +3,7 @@
 //! places of lamps by what is below and above them.
 ghost use Rattle.std.specs.Prelude.{◌≤◌};
 
-use room_layout::{Block, Lamp, Limits, Reflects, Room, Shine, Size, TaskGrid, read_room};
+use room_layout::{Block, Face, Lamp, Limits, Reflects, Room, Shine, Size, TaskGrid, read_room};
 use room_make::make_room;
 use std::process::Abort;
 use std::test::Fail;
@@ -118,6 +118,7 @@ fn expect_lamps(rt: &impl Abort, n: u32, room: &Room) {
             size_y: 0,
             split_x: 1,
             split_y: 1,
+            aim: Face::Down,
         };
         assert_eq!(rt; *lamp, wanted, "{n}");
         column = column.saturating_add(1);

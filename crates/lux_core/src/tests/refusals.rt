@@ -1,6 +1,7 @@
 //! Words that are no command, and rooms that are refused.
 use super::{CALM, run};
 use crate::Status;
+use std::alloc::Global;
 use std::test::Fail;
 
 const ROOM: &str =
@@ -46,6 +47,79 @@ fn a_refused_room_has_one_line(rt: HostRuntime) -> Result<(), Fail> {
         Status::Refused,
         "refused none.toml Absent\n",
     )?;
+    Ok(())
+}
+
+/// A room of 4 by 2 by 2 m in a version of the layout.
+fn room_with(alloc: Global, version: u32, lamp: &str) -> Result<String, Fail> {
+    let room = format!(in alloc;
+        "version = {version}\n[room]\nsize = [4000, 2000, 2000]\n[[lamp]]\ncandela = 10\n{lamp}[task]\nfrom = [0, 0]\nto = [4000, 2000]\nheight = 0\npoints = [1, 1]\n"
+    )?;
+    Ok(room)
+}
+
+#[test]
+fn an_aim_is_one_of_six_names_in_version_2(rt: HostRuntime) -> Result<(), Fail> {
+    let alloc = rt.alloc();
+    let words = ["report", "room.toml"];
+    for (version, aim, text) in [
+        (1, "\"-z\"", "refused room 4 Unknown lamp 0\n"),
+        (2, "\"-Z\"", "refused room 6 Range lamp.aim 0\n"),
+        (2, "\"x\"", "refused room 6 Range lamp.aim 0\n"),
+        (2, "\"+x \"", "refused room 6 Range lamp.aim 0\n"),
+        (2, "\"\"", "refused room 6 Range lamp.aim 0\n"),
+        (2, "3", "refused room 5 Kind lamp.aim 0\n"),
+        (2, "[\"+x\"]", "refused room 5 Kind lamp.aim 0\n"),
+    ] {
+        let lamp = format!(in alloc; "at = [2000, 1000, 1000]\naim = {aim}\n")?;
+        let room = room_with(alloc, version, lamp.as_str())?;
+        run(
+            &rt,
+            alloc,
+            &words,
+            room.as_str(),
+            &CALM,
+            Status::Refused,
+            text,
+        )?;
+    }
+    Ok(())
+}
+
+/// A lamp in a wall, by its place, its size and its aim.
+fn wall_lamp(alloc: Global, at: &str, size: &str, aim: &str) -> Result<String, Fail> {
+    let lamp = format!(in alloc; "at = [{at}]\nsize = [{size}]\naim = \"{aim}\"\n")?;
+    Ok(lamp)
+}
+
+// A lamp at an end of an axis is within the room where neither number of its size goes along that axis.
+#[test]
+fn a_lamps_size_goes_along_the_axes_across_its_aim(rt: HostRuntime) -> Result<(), Fail> {
+    let alloc = rt.alloc();
+    let words = ["sight", "room.toml", "0", "0", "0", "1", "1", "1"];
+    let (done, refused) = (Status::Done, Status::Refused);
+    let outside = "refused room 7 Outside lamp 0\n";
+    for (at, size, aim, status, text) in [
+        // along y and z
+        ("0, 1000, 1000", "2, 0", "+x", done, "clear\n"),
+        ("0, 1000, 1000", "0, 2", "+x", done, "clear\n"),
+        ("0, 1000, 2000", "0, 2", "+x", refused, outside),
+        ("4000, 2000, 1000", "2, 0", "-x", refused, outside),
+        ("0, 1000, 1000", "2002, 0", "+x", refused, outside),
+        // along x and z
+        ("2000, 0, 1000", "2, 0", "+y", done, "clear\n"),
+        ("2000, 0, 1000", "0, 2", "+y", done, "clear\n"),
+        ("2000, 0, 0", "0, 2", "+y", refused, outside),
+        ("4000, 2000, 1000", "2, 0", "-y", refused, outside),
+        ("2000, 0, 1000", "0, 2002", "+y", refused, outside),
+        // along x and y
+        ("0, 1000, 1000", "2, 0", "+z", refused, outside),
+        ("2000, 0, 1000", "0, 2", "-z", refused, outside),
+    ] {
+        let lamp = wall_lamp(alloc, at, size, aim)?;
+        let room = room_with(alloc, 2, lamp.as_str())?;
+        run(&rt, alloc, &words, room.as_str(), &CALM, status, text)?;
+    }
     Ok(())
 }
 

@@ -1,8 +1,9 @@
 //! Reports of rooms. Where nothing reflects, the values are worked out by hand: candela times cosine by the squared distance. The
 //! others are those of `bench/expected.py`, a planner in double precision with none of this code; each lies more than 0.001 from a
 //! printed edge.
-use super::{CALM, run};
+use super::{CALM, run, run_over, shelf_of};
 use crate::Status;
+use std::alloc::Global;
 use std::test::Fail;
 
 const REPORT: [&str; 2] = ["report", "room.toml"];
@@ -40,6 +41,97 @@ fn black_rooms_are_reported(rt: HostRuntime) -> Result<(), Fail> {
         ),
     ] {
         let room = format!(in alloc; "{HALL}{lamps}{FLOOR}{points}")?;
+        run(
+            &rt,
+            alloc,
+            &REPORT,
+            room.as_str(),
+            &CALM,
+            Status::Done,
+            text,
+        )?;
+    }
+    Ok(())
+}
+
+/// A lamp 3 m above the middle of a floor of 60 by 60 m, in a version of the layout.
+fn broad_hall(alloc: Global, version: u32) -> Result<String, Fail> {
+    let room = format!(in alloc;
+        "version = {version}\n[room]\nsize = [60000, 60000, 3000]\npatch = 5000\n[[lamp]]\nat = [30000, 30000, 3000]\ncandela = 5000\n[task]\nfrom = [0, 0]\nto = [60000, 60000]\nheight = 0\npoints = [1, 1]\n"
+    )?;
+    Ok(room)
+}
+
+#[test]
+fn a_hall_of_60_m_is_reported_in_version_2(rt: HostRuntime) -> Result<(), Fail> {
+    let alloc = rt.alloc();
+    for (version, status, text) in [
+        (1, Status::Refused, "refused room 6 Range room.size\n"),
+        // 5000 / 9 = 555.5..
+        (
+            2,
+            Status::Done,
+            "point 0 0 555.55 555.56\naverage 555.55 555.56\nuniformity 0.999 1.000\n",
+        ),
+    ] {
+        let room = broad_hall(alloc, version)?;
+        run(&rt, alloc, &REPORT, room.as_str(), &CALM, status, text)?;
+    }
+    Ok(())
+}
+
+// 12 * 12 on the floor and on the ceiling, and 12 on each wall
+#[test]
+fn a_hall_of_60_m_has_336_patches(rt: HostRuntime) -> Result<(), Fail> {
+    let alloc = rt.alloc();
+    let mut claim = String::from_str(alloc, "patch,lower,upper\n")?;
+    for patch in 0..336u32 {
+        let record = format!(in alloc; "{patch},0,1000000000000000000\n")?;
+        claim.push_str(record.as_str())?;
+    }
+    let room = broad_hall(alloc, 2)?;
+    let mut shelf = shelf_of(alloc, room.as_str(), &[])?;
+    shelf
+        .add("claim.csv", claim.as_bytes())
+        .ok()
+        .ok_or("memory")?;
+    let words = ["check", "room.toml", "claim.csv"];
+    run_over(
+        &rt,
+        alloc,
+        &words,
+        &mut shelf,
+        100,
+        Status::Done,
+        b"shown 336\n",
+    )
+}
+
+/// A room of 100 m along each edge, of 24 patches of 50 m, or one of 50,001 mm along z, where the walls' patches are 25 m high.
+const LARGEST: &str =
+    "reflect = [200, 300, 400, 500, 600, 700]\npatch = 50000\n[[lamp]]\ncandela = 9276500\n";
+
+const LARGEST_TASK: &str =
+    "[task]\nfrom = [0, 0]\nto = [100000, 100000]\nheight = 40000\npoints = [2, 2]\n";
+
+#[test]
+fn rooms_of_100_m_are_reported(rt: HostRuntime) -> Result<(), Fail> {
+    let alloc = rt.alloc();
+    for (height, text) in [
+        // 3707.984296, 1748.816505, 2090.944767, 1345.315148; 2223.265179; 0.605108
+        (
+            100000,
+            "point 0 0 3707.98 3707.99\npoint 1 0 1748.81 1748.82\npoint 0 1 2090.94 2090.95\npoint 1 1 1345.31 1345.32\naverage 2223.26 2223.27\nuniformity 0.605 0.606\n",
+        ),
+        // 51106.755769, 779.673076, 1215.322704, 471.502674; 13393.313556; 0.035204
+        (
+            50001,
+            "point 0 0 51106.75 51106.76\npoint 1 0 779.67 779.68\npoint 0 1 1215.32 1215.33\npoint 1 1 471.50 471.51\naverage 13393.31 13393.32\nuniformity 0.035 0.036\n",
+        ),
+    ] {
+        let room = format!(in alloc;
+            "version = 2\n[room]\nsize = [100000, 100000, {height}]\n{LARGEST}at = [20000, 30000, {height}]\n{LARGEST_TASK}"
+        )?;
         run(
             &rt,
             alloc,

@@ -73,6 +73,11 @@ pub const ROUND: &str = "\
 IESNA:LM-63-2002\nTILT=NONE\n1 -1 2 4 5 1 2 0 0 0\n0.9 1 0\n0 35 65 180\n0 90 180 270 360\n100 90 40 10\n100 70 20 0\n\
 100 120 80 5\n100 60 50 15\n9 9 9 9\n";
 
+/// 100, 200, 300 and 400 cd in the half-planes at C 0, 90, 180 and 270, and the last again at 360 with values that aren't used.
+pub const QUADRANTS: &str = "\
+IESNA:LM-63-2002\n[TEST] none\nTILT=NONE\n1 -1 1 2 5 1 2 0 0 0\n1 1 0\n0 180\n0 90 180 270 360\n100 100\n200 200\n300 300\n\
+400 400\n999 999\n";
+
 /// A luminaire for offices: its half-planes have 15 degrees between them, its gammas 5, and it is dark above gamma 90.
 pub const OFFICE: &str = "\
 -\n-\n4\n24\n-\n37\n-\n-\n-\n-\n-\n-\n-\n-\n-\n-\n-\n-\n-\n-\n-\n-\n-\n1\n-\n1\n-\nLED\n4000\n-\n-\n-\n-\n-\n-\n-\n-\n\
