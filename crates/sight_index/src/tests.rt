@@ -70,15 +70,15 @@ impl<'a> Probe for Told<'a> {
 }
 
 /// A coordinate of at most so many millimetres.
-fn coordinate(edge: u32, at: u16) -> i32
-    requires { edge ≤ 50000 }
+fn coordinate(edge: u32, at: u32) -> i32
+    requires { edge ≤ 100000 }
     ensures { IsAlong edge result }
 {
-    i32::from(at).min(2 * edge as i32)
+    at.min(2 * edge) as i32
 }
 
 /// The point at so many half millimetres, which lies in the room.
-fn point(room: Size, at: [u16; 3]) -> Point
+fn point(room: Size, at: [u32; 3]) -> Point
     requires { IsRoomSize room }
     ensures { IsPointIn room result }
 {
@@ -94,8 +94,8 @@ fn both(
     index: &SightIndex,
     room: Size,
     blocks: &[Block],
-    from: [u16; 3],
-    to: [u16; 3],
+    from: [u32; 3],
+    to: [u32; 3],
 ) -> (Option<usize>, Option<usize>)
     requires room { IsRoomSize room }
     requires few { length blocks.now ≤ 64 }
@@ -217,6 +217,48 @@ fn the_last_of_sixty_four_boxes_is_found(rt: HostRuntime) -> Result<(), Fail> {
     assert_eq!(rt; index.blocked_between(&from, &to, &mut probe), Some(63));
     assert_eq!(rt; probe.asked, u64::MAX);
     assert_eq!(rt; index.cell(8, 8, 8), u64::MAX);
+    Ok(())
+}
+
+/// The largest room.
+const WIDE: Size = Size {
+    x: 100_000,
+    y: 100_000,
+    z: 100_000,
+};
+
+/// A box in its last corner.
+const LAST: Block = Block {
+    lo: Size {
+        x: 99_999,
+        y: 99_999,
+        z: 99_999,
+    },
+    hi: WIDE,
+    reflect: 0,
+};
+
+// The cells are 6,250 mm long.
+#[test]
+fn the_last_corner_of_the_largest_room_is_in_the_last_cell(rt: HostRuntime) -> Result<(), Fail> {
+    let blocks = [BLOCK, LAST];
+    let index = SightIndex::build(rt.alloc(), WIDE, &blocks)?;
+    for ((i, j, k), mask) in [
+        ((15, 15, 15), 2),
+        ((14, 15, 15), 0),
+        ((0, 0, 0), 1),
+        ((1, 0, 0), 0),
+    ] {
+        assert_eq!(rt; index.cell(i, j, k), mask, "cell {i} {j} {k}");
+    }
+    let corner = [200_000, 200_000, 200_000];
+    for (from, met) in [
+        ([0, 0, 0], Some(0)),
+        ([190_000, 190_000, 190_000], Some(1)),
+        ([200_000, 0, 200_000], None),
+    ] {
+        assert_eq!(rt; both(&index, WIDE, &blocks, from, corner), (met, met));
+    }
     Ok(())
 }
 

@@ -76,7 +76,7 @@ pub const CELLS: [((usize, usize, usize), u64); 22] = [
 pub const TOUCHED: [u64; 8] = [27, 1, 1, 1, 256, 8, 12, 512];
 
 /// The ends of a segment, the boxes that it meets and those that are asked, as masks, and the first that is met.
-pub const SEGMENTS: [([u16; 3], [u16; 3], u64, u64, Option<usize>); 24] = [
+pub const SEGMENTS: [([u32; 3], [u32; 3], u64, u64, Option<usize>); 24] = [
     ([500, 0, 516], [500, 5006, 516], 0, 3, None),
     ([520, 1876, 300], [520, 1876, 600], 16, 19, Some(4)),
     ([520, 1877, 410], [520, 1877, 600], 1, 1, Some(0)),
