@@ -1,4 +1,6 @@
 pub mod Falls
+pub mod Frames
+pub mod MiddleLamps
 pub mod Narrow
 pub mod Ordered
 pub mod PointLists

@@ -24,12 +24,12 @@ use Rattle.photo_table.specs.Table.{Table, value, bilinear, lower, upper}
 use Rattle.photo_table.specs.Angles.{turn_later}
 use Rattle.photo_table.proofs.HullLaws.{first_below, hull_contains, stands_table}
 use Rattle.photo_table.proofs.Tables.{end_near}
-use Rattle.direct_light.specs.Directions.{step_from, c_towards, gamma_towards, seen, loose_seen, bracket_width}
+use Rattle.direct_light.specs.Directions.{step_towards, c_towards, gamma_towards, seen, loose_seen, bracket_width}
 use Rattle.direct_light.specs.Laws.{IsOrdered, ExactIsOrdered, SeenIsInOrder, ShareIsInOrder, LampShareIsInOrder}
 use Rattle.direct_light.specs.Lamps.{part_count}
 use Rattle.direct_light.specs.Shares.{falloff, fallen, share_of, loosened, table_at}
 use Rattle.direct_light.proofs.Falls.{root_low_positive}
-use Rattle.direct_light.proofs.Steps.{somewhere}
+use Rattle.direct_light.proofs.Frames.{somewhere_towards}
 use Rattle.direct_light.proofs.Shown.{at_most_square}
 use Rattle.room_layout.proofs.Apart.{ahead}
 
@@ -124,13 +124,13 @@ gamma_below n dx dy dz = elim (is_true_or_false (is_positive dz)) [
 
 pub seen_in_order : SeenIsInOrder
 seen_in_order t h n l q p apart =
-    let c = c_in_order n (step_from q p).x (step_from q p).y l.turn in
-    let g = gamma_in_order n (step_from q p).x (step_from q p).y (step_from q p).z (somewhere q p apart) in
-    let below = gamma_below n (step_from q p).x (step_from q p).y (step_from q p).z in (
-      hull_order t h (c_towards n l q p) (gamma_towards n q p) c g,
-      outward_order (half_power 30) (hull t (loose_c bracket_width (c_towards n l q p)) (loose_gamma bracket_width (gamma_towards n q p)))
-          (hull_order t h (loose_c bracket_width (c_towards n l q p)) (loose_gamma bracket_width (gamma_towards n q p))
-          (loose_c_order bracket_width (c_towards n l q p) c) (loose_gamma_order bracket_width (gamma_towards n q p) g below)),
+    let c = c_in_order n (step_towards l q p).x (step_towards l q p).y l.turn in
+    let g = gamma_in_order n (step_towards l q p).x (step_towards l q p).y (step_towards l q p).z (somewhere_towards l q p apart) in
+    let below = gamma_below n (step_towards l q p).x (step_towards l q p).y (step_towards l q p).z in (
+      hull_order t h (c_towards n l q p) (gamma_towards n l q p) c g,
+      outward_order (half_power 30) (hull t (loose_c bracket_width (c_towards n l q p)) (loose_gamma bracket_width (gamma_towards n l q p)))
+          (hull_order t h (loose_c bracket_width (c_towards n l q p)) (loose_gamma bracket_width (gamma_towards n l q p))
+          (loose_c_order bracket_width (c_towards n l q p) c) (loose_gamma_order bracket_width (gamma_towards n l q p) g below)),
     )
 
 pub exact_is_ordered : ExactIsOrdered

@@ -17,10 +17,10 @@ use Rattle.photo_table.specs.Kept.{Rounds}
 use Rattle.photo_table.specs.Laws.{StandsFor, MeetTurned, loose_c, loose_gamma}
 use Rattle.photo_table.specs.Table.{Table, IsTable}
 use Rattle.photo_table.proofs.HullLaws.{hulls_meet, hulls_near}
-use Rattle.direct_light.specs.Directions.{step_from, c_towards, gamma_towards, seen, loose_seen, bracket_width}
+use Rattle.direct_light.specs.Directions.{step_towards, c_towards, gamma_towards, seen, loose_seen, bracket_width}
 use Rattle.direct_light.specs.Ways.{IsNarrowBracket, AreAngles}
 use Rattle.direct_light.specs.declared.angles.Angles.{Angles}
-use Rattle.direct_light.proofs.Steps.{somewhere}
+use Rattle.direct_light.proofs.Frames.{somewhere_towards}
 
 -- ---- brackets of whole millionths
 
@@ -120,22 +120,22 @@ pub seen_meets : (p t : Table) (l : Lamp) (q r : Place) (a : Angles) (s : Ends) 
 seen_meets p t l q r a s is stands apart h rounds n =
     let m = circle_meets (of_bracket a.c) (c_towards n l q r) (h.c_meets n) in
     rounded_meets (hull p (of_bracket a.c) (of_bracket a.gamma)) (seen n t l q r) s rounds
-    (hulls_meet p t is stands m.turns m.others (of_bracket a.c) (of_bracket a.gamma) (c_towards n l q r) (gamma_towards n q r)
-    (bracket_order a.c h.c_narrow) (bracket_order a.gamma h.gamma_narrow) (c_in_order n (step_from q r).x (step_from q r).y l.turn)
-    (gamma_in_order n (step_from q r).x (step_from q r).y (step_from q r).z (somewhere q r apart)) m.meet (h.gamma_meets n))
+    (hulls_meet p t is stands m.turns m.others (of_bracket a.c) (of_bracket a.gamma) (c_towards n l q r) (gamma_towards n l q r)
+    (bracket_order a.c h.c_narrow) (bracket_order a.gamma h.gamma_narrow) (c_in_order n (step_towards l q r).x (step_towards l q r).y l.turn)
+    (gamma_in_order n (step_towards l q r).x (step_towards l q r).y (step_towards l q r).z (somewhere_towards l q r apart)) m.meet (h.gamma_meets n))
 
 pub seen_near : (p t : Table) (l : Lamp) (q r : Place) (a : Angles) (s : Ends) → IsTable p → StandsFor p t → AreAngles l q r a
     → Rounds (hull p (of_bracket a.c) (of_bracket a.gamma)).lo (hull p (of_bracket a.c) (of_bracket a.gamma)).hi (natural s.lo) (natural s.hi)
     → (n : ℕ) → LiesIn (of_span s) (loose_seen n t l q r)
 seen_near p t l q r a s is stands h rounds n =
     let m = circle_meets (of_bracket a.c) (c_towards n l q r) (h.c_meets n) in
-    rounded_near (hull p (of_bracket a.c) (of_bracket a.gamma)) (hull t (loose_c bracket_width (c_towards n l q r)) (loose_gamma bracket_width (gamma_towards n q r))) s rounds
-    (hulls_near p t is stands bracket_width m.turns m.others (of_bracket a.c) (of_bracket a.gamma) (c_towards n l q r) (gamma_towards n q r)
+    rounded_near (hull p (of_bracket a.c) (of_bracket a.gamma)) (hull t (loose_c bracket_width (c_towards n l q r)) (loose_gamma bracket_width (gamma_towards n l q r))) s rounds
+    (hulls_near p t is stands bracket_width m.turns m.others (of_bracket a.c) (of_bracket a.gamma) (c_towards n l q r) (gamma_towards n l q r)
     (bracket_order a.c h.c_narrow) (bracket_order a.gamma h.gamma_narrow) width_small (bracket_narrow a.c h.c_narrow) (bracket_narrow a.gamma h.gamma_narrow)
     (half_turn (natural a.gamma.hi.0) h.gamma_within) m.meet (h.gamma_meets n))
 
 -- what the calls of the two angles say, for the coordinates x, y and z of the step
-pub angles_are : (l : Lamp) (q r : Place) (x y z : ℤ) (a : Angles) → x ≡ (step_from q r).x → y ≡ (step_from q r).y → z ≡ (step_from q r).z
+pub angles_are : (l : Lamp) (q r : Place) (x y z : ℤ) (a : Angles) → x ≡ (step_towards l q r).x → y ≡ (step_towards l q r).y → z ≡ (step_towards l q r).z
     → ((n : ℕ) → MeetsOnCircle (of_bracket a.c) (direction_c n x y l.turn)) → ((n : ℕ) → Meets (of_bracket a.gamma) (direction_gamma n x y z))
     → IsNarrowBracket a.c → IsNarrowBracket a.gamma → a.c.lo.0 <ℤ pos 360000000 → a.gamma.hi.0 ≤ℤ pos 180000000 → AreAngles l q r a
 angles_are l q r x y z a ex ey ez c_meets gamma_meets c_narrow gamma_narrow below within = record {

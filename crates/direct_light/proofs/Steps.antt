@@ -45,19 +45,11 @@ some_square : (a : ℕ) → 0 < a * a → 0 < a
 some_square zero h = absurd (omega arith)
 some_square (suc a) h = omega arith
 
-some_length : (a b c : ℕ) → 0 < a * a + b * b + c * c → 0 < a + b + c
+pub some_length : (a b c : ℕ) → 0 < a * a + b * b + c * c → 0 < a + b + c
 some_length zero zero zero h = absurd (omega arith)
 some_length (suc a) b c h = omega arith
 some_length zero (suc b) c h = omega arith
 some_length zero zero (suc c) h = omega arith
-
-pub some_step : (q p : Place) → 0 < squared_distance p q
-    → 0 < unsigned_abs (step_from q p).x + unsigned_abs (step_from q p).y + unsigned_abs (step_from q p).z
-some_step q p h = some_length (unsigned_abs (step_from q p).x) (unsigned_abs (step_from q p).y) (unsigned_abs (step_from q p).z) (somewhere q p h)
-
-pub some_step_at : (q p : Place) (x y z : ℤ) → x ≡ (step_from q p).x → y ≡ (step_from q p).y → z ≡ (step_from q p).z → 0 < squared_distance p q
-    → 0 < unsigned_abs x + unsigned_abs y + unsigned_abs z
-some_step_at q p x y z ex ey ez h = rw (ex, ey, ez) (some_step q p h)
 
 -- what a call has made of a coordinate that was passed as 32 bits
 pub passed : (z y : ℤ) → SFits w32 z → z ≡ y → to_z w32 (of_z w32 z) ≡ y

@@ -3,16 +3,17 @@ use Rattle.std.specs.Prelude.{◌≡◌, Bool, ◌&&◌, true, pos, negsuc, [], 
 use Rattle.fx_base.specs.Fraction.{Fraction, at_most, ratio, whole, half_power, ◌+ᶠ◌, ◌-ᶠ◌}
 use Rattle.fx_base.specs.Interval.{exact}
 use Rattle.room_layout.specs.Place.{Place}
+use Rattle.room_layout.specs.declared.geometry.Face.TheVariants.{Up, Down, East, West, North, South}
 use Rattle.room_layout.specs.declared.room.Lamp.{Lamp}
 use Rattle.room_layout.specs.declared.room.Shine.TheVariants.{File}
 use Rattle.angle_bracket.specs.DirectionTests.{all_directions}
 use Rattle.photo_table.specs.Table.{Table}
 use Rattle.photo_table.specs.Tests.{computed}
-use Rattle.direct_light.specs.Directions.{step_from, seen, loose_seen}
+use Rattle.direct_light.specs.Directions.{Step, step_from, framed, seen, loose_seen}
 
 -- whatever the intensities are made of
 unfoldable of_seen : Unit {0}
-unfolding all_directions computed half_power ◌-ᶠ◌ step_from
+unfolding all_directions computed half_power ◌-ᶠ◌ step_from framed
 of_seen = tt
 
 abbrev point : Place
@@ -28,6 +29,39 @@ up_and_aside : step_from point (record { x = 2000; y = 2500; z = 7000 }) ≡ rec
 unfolding step_from
 up_and_aside = refl
 
+-- ---- a step of 1 along x, 2 along y and 3 along z in the frame of each aim
+
+abbrev one_two_three : Step
+one_two_three = record { x = pos 1; y = pos 2; z = pos 3 }
+
+-- the frame of a lamp that hangs is that of the room
+hanging : framed Down one_two_three ≡ record { x = pos 1; y = pos 2; z = pos 3 }
+unfolding framed
+hanging = refl
+
+-- turned over about x
+standing : framed Up one_two_three ≡ record { x = pos 1; y = negsuc 1; z = negsuc 2 }
+unfolding framed
+standing = refl
+
+-- on a wall, C 0 lies along y, and C grows downwards where the lamp faces along x
+along_x : framed East one_two_three ≡ record { x = pos 2; y = negsuc 2; z = negsuc 0 }
+unfolding framed
+along_x = refl
+
+against_x : framed West one_two_three ≡ record { x = pos 2; y = pos 3; z = pos 1 }
+unfolding framed
+against_x = refl
+
+-- or along x
+along_y : framed North one_two_three ≡ record { x = pos 1; y = pos 3; z = negsuc 1 }
+unfolding framed
+along_y = refl
+
+against_y : framed South one_two_three ≡ record { x = pos 1; y = negsuc 2; z = pos 2 }
+unfolding framed
+against_y = refl
+
 -- ---- 300, 400, 500 and 600 cd straight down in the half-planes 0, 90, 180 and 270, and 0 at gamma 90 in each
 
 abbrev table : Table
@@ -40,7 +74,7 @@ table = record {
 
 -- a lamp that is turned by a quarter
 abbrev lamp : Lamp
-lamp = record { at = record { x = 1500; y = 1500; z = 3000 }; shine = File 0; turn = 90; maintenance = 1000; size_x = 0; size_y = 0; split_x = 1; split_y = 1 }
+lamp = record { at = record { x = 1500; y = 1500; z = 3000 }; shine = File 0; turn = 90; maintenance = 1000; size_x = 0; size_y = 0; split_x = 1; split_y = 1; aim = Down }
 
 abbrev is : Fraction → Fraction → Bool
 is a b = at_most a b && at_most b a
@@ -68,3 +102,8 @@ loose_below = refl
 loose_above : is (loose_seen 0 table lamp point below).hi (ratio 300 1 +ᶠ ratio 300 360000 +ᶠ half_power 30) ≡ true
 unfolding of_seen
 loose_above = refl
+
+-- aimed up, the same lamp has 300 cd straight above it
+straight_up : (is (seen 0 table (record lamp { aim = Up }) point (record { x = 3000; y = 3000; z = 9000 })).lo (whole 300)) ≡ true
+unfolding of_seen
+straight_up = refl

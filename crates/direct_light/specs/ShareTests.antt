@@ -17,7 +17,7 @@ unfolding ratio whole half_power ◌+ᶠ◌ ◌-ᶠ◌ ◌*ᶠ◌ ◌/ᶠ◌ hal
 of_shares = tt
 
 abbrev lamp_of : ℕ → Lamp
-lamp_of candela = record { at = record { x = 1500; y = 1500; z = 3000 }; shine = Even candela; turn = 0; maintenance = 1000; size_x = 0; size_y = 0; split_x = 1; split_y = 1 }
+lamp_of candela = record { at = record { x = 1500; y = 1500; z = 3000 }; shine = Even candela; turn = 0; maintenance = 1000; size_x = 0; size_y = 0; split_x = 1; split_y = 1; aim = Down }
 
 abbrev floor : Place
 floor = record { x = 3000; y = 3000; z = 0 }

@@ -6,9 +6,14 @@ use Rattle.fx_base.specs.declared.micro.Bracket.{Bracket}
 use Rattle.room_layout.specs.Place.{Place, in_front, squared_distance}
 use Rattle.room_layout.specs.declared.geometry.Face.{Face}
 use Rattle.room_layout.specs.declared.room.Lamp.{Lamp}
-use Rattle.direct_light.specs.Directions.{c_towards, gamma_towards}
+use Rattle.direct_light.specs.Directions.{Step, c_towards, gamma_towards}
 use Rattle.direct_light.specs.declared.angles.Angles.{Angles}
+use Rattle.direct_light.specs.declared.step.Step.{Step as HeldStep}
 use Rattle.direct_light.specs.declared.way.Way.{Way}
+
+-- the step that the program holds
+abbrev pub step_of : HeldStep → Step
+step_of s = record { x = s.x; y = s.y; z = s.z }
 
 -- the plane at p that faces so has nothing of the point q: it is hidden, or not in front of the plane
 abbrev pub IsDark : Place → Place → Face → Bool → Type 0
@@ -35,6 +40,6 @@ pub record AreAngles (l : Lamp) (q p : Place) (a : Angles) : Type 0 where
   pub c_meets : (n : ℕ) → MeetsOnCircle (of_bracket a.c) (c_towards n l q p)
   pub c_narrow : IsNarrowBracket a.c
   pub c_below : natural a.c.lo.0 < 360000000
-  pub gamma_meets : (n : ℕ) → Meets (of_bracket a.gamma) (gamma_towards n q p)
+  pub gamma_meets : (n : ℕ) → Meets (of_bracket a.gamma) (gamma_towards n l q p)
   pub gamma_narrow : IsNarrowBracket a.gamma
   pub gamma_within : natural a.gamma.hi.0 ≤ 180000000

@@ -5,13 +5,13 @@ ghost use Rattle.room_layout.specs.Positions.{IsInReach};
 ghost use Rattle.direct_light.specs.Lamps.{IsLamp};
 ghost use Rattle.direct_light.specs.Ways.{AreAngles};
 
-use crate::step::step_from;
+use crate::step::{framed, step_from};
 use angle_bracket::{gamma, turn_angle};
 use fx_base::Bracket;
 use room_layout::{Lamp, Point};
 use series_enclose::TangentTable;
 
-/// C round the lamp's axis from its half-plane C 0, and gamma from the way in which gamma 0 leads.
+/// C round the lamp's aim from its half-plane C 0, and gamma from the aim.
 #[derive(Clone, Copy)]
 pub struct Angles {
     pub c: Bracket,
@@ -26,7 +26,7 @@ pub fn angles_towards(table: &TangentTable, lamp: &Lamp, from: Point, at: Point)
     requires apart { 0 < squared_distance (place_of at) (place_of from) }
     ensures { AreAngles lamp.now (place_of from) (place_of at) result }
 {
-    let step = step_from(from, at);
+    let step = framed(lamp.aim, step_from(from, at));
     Angles {
         c: turn_angle(table, step.x, step.y, lamp.turn),
         gamma: gamma(table, step.x, step.y, step.z),

@@ -1,5 +1,6 @@
 //! The light that one point of a lamp gives on a plane at a place: by how the lamp shines in that direction, how far away the place is
-//! and how the plane lies.
+//! and how the plane lies. A lamp is aimed along an axis of the room: its rectangle lies across the aim, and its directions are those of
+//! its own frame.
 #![tactic(auto)]
 
 mod angles;

@@ -4,6 +4,8 @@ ghost use Rattle.room_layout.specs.Accepted.{IsBetween};
 ghost use Rattle.room_layout.specs.Positions.{IsInReach};
 ghost use Rattle.direct_light.specs.Lamps.{IsLamp};
 
+mod aims;
+
 use crate::{direct, even_light, lamp_points};
 use fx_base::{Micro, Span};
 use photo_table::PhotoTable;
@@ -15,8 +17,8 @@ use std::test::Fail;
 /// A thousandth of a lux, in ticks.
 const THOUSANDTH: i128 = 68_719_477;
 
-/// A lamp in the middle of a room of 6 m by 6 m by 6 m, with this turn, maintenance, size and split.
-fn lamp(turn: u16, maintenance: u16, size: (u32, u32), split: (u32, u32)) -> Lamp
+/// A lamp in the middle of a room of 6 m by 6 m by 6 m, with this aim, turn, maintenance, size and split.
+fn lamp(aim: Face, turn: u16, maintenance: u16, size: (u32, u32), split: (u32, u32)) -> Lamp
     requires turn { turn ≤ 359 }
     requires maintenance { maintenance ≤ 1000 }
     requires size_x { size.0 ≤ 600 }
@@ -38,6 +40,7 @@ fn lamp(turn: u16, maintenance: u16, size: (u32, u32), split: (u32, u32)) -> Lam
         size_y: size.1,
         split_x: split.0,
         split_y: split.1,
+        aim,
     }
 }
 
@@ -102,7 +105,7 @@ fn holds(light: Span, ticks: i128, width: i128) -> bool {
 
 #[test]
 fn a_lamp_of_two_parts_has_a_point_in_the_middle_of_each(rt: HostRuntime) -> Result<(), Fail> {
-    let points = lamp_points(rt.alloc(), &lamp(0, 1000, (600, 0), (2, 1)))?;
+    let points = lamp_points(rt.alloc(), &lamp(Face::Down, 0, 1000, (600, 0), (2, 1)))?;
     assert_eq!(rt; points.len(), 2);
     assert_eq!(rt;
         points.get(0),
@@ -125,7 +128,7 @@ fn a_lamp_of_two_parts_has_a_point_in_the_middle_of_each(rt: HostRuntime) -> Res
 
 #[test]
 fn points_go_row_by_row_along_x(rt: HostRuntime) -> Result<(), Fail> {
-    let points = lamp_points(rt.alloc(), &lamp(0, 1000, (600, 401), (3, 2)))?;
+    let points = lamp_points(rt.alloc(), &lamp(Face::Down, 0, 1000, (600, 401), (3, 2)))?;
     assert_eq!(rt; points.len(), 6);
     assert_eq!(rt;
         points.get(1),
@@ -156,7 +159,7 @@ fn points_go_row_by_row_along_x(rt: HostRuntime) -> Result<(), Fail> {
 
 #[test]
 fn each_of_two_parts_gives_a_half(rt: HostRuntime) -> Result<(), Fail> {
-    let lamp = lamp(0, 1000, (600, 0), (2, 1));
+    let lamp = lamp(Face::Down, 0, 1000, (600, 0), (2, 1));
     let at = point(6000, 6000, 0);
     let first = even_light(5050, &lamp, point(5700, 6000, 6000), at, Face::Up, true);
     let second = even_light(5050, &lamp, point(6300, 6000, 6000), at, Face::Up, true);
@@ -170,7 +173,7 @@ fn an_even_lamp_is_kept_to_its_maintenance_and_has_no_turn(rt: HostRuntime) -> R
     let at = point(8000, 7000, 0);
     let light = even_light(
         1000,
-        &lamp(123, 800, (0, 0), (1, 1)),
+        &lamp(Face::Down, 123, 800, (0, 0), (1, 1)),
         middle(),
         at,
         Face::Up,
@@ -184,7 +187,7 @@ fn an_even_lamp_is_kept_to_its_maintenance_and_has_no_turn(rt: HostRuntime) -> R
 fn what_is_hidden_or_behind_is_dark(rt: HostRuntime) -> Result<(), Fail> {
     let tangents = TangentTable::build(rt.alloc())?;
     let photo = uneven(rt.alloc())?;
-    let lamp = lamp(0, 1000, (0, 0), (1, 1));
+    let lamp = lamp(Face::Down, 0, 1000, (0, 0), (1, 1));
     let at = point(8000, 7000, 0);
     let hidden = direct(&tangents, &photo, &lamp, middle(), at, Face::Up, false);
     assert_eq!(rt; (hidden.lo().0, hidden.hi().0), (0, 0));
@@ -205,7 +208,7 @@ fn a_lamp_with_a_turn_maintenance_and_parts(rt: HostRuntime) -> Result<(), Fail>
     let turned = direct(
         &tangents,
         &photo,
-        &lamp(30, 800, (600, 0), (2, 1)),
+        &lamp(Face::Down, 30, 800, (600, 0), (2, 1)),
         middle(),
         at,
         Face::Up,
@@ -215,7 +218,7 @@ fn a_lamp_with_a_turn_maintenance_and_parts(rt: HostRuntime) -> Result<(), Fail>
     let straight = direct(
         &tangents,
         &photo,
-        &lamp(0, 800, (600, 0), (2, 1)),
+        &lamp(Face::Down, 0, 800, (600, 0), (2, 1)),
         middle(),
         at,
         Face::Up,
@@ -233,7 +236,7 @@ fn walls_see_a_lamp_from_the_side(rt: HostRuntime) -> Result<(), Fail> {
     let light = direct(
         &tangents,
         &photo,
-        &lamp(200, 1000, (0, 0), (1, 1)),
+        &lamp(Face::Down, 200, 1000, (0, 0), (1, 1)),
         middle(),
         wall,
         Face::East,
@@ -244,7 +247,7 @@ fn walls_see_a_lamp_from_the_side(rt: HostRuntime) -> Result<(), Fail> {
     let other = direct(
         &tangents,
         &photo,
-        &lamp(359, 1000, (0, 0), (1, 1)),
+        &lamp(Face::Down, 359, 1000, (0, 0), (1, 1)),
         middle(),
         far_wall,
         Face::South,
@@ -262,7 +265,7 @@ fn straight_below_there_is_no_turn(rt: HostRuntime) -> Result<(), Fail> {
     let light = direct(
         &tangents,
         &photo,
-        &lamp(77, 1000, (0, 0), (1, 1)),
+        &lamp(Face::Down, 77, 1000, (0, 0), (1, 1)),
         middle(),
         below,
         Face::Up,
@@ -280,7 +283,7 @@ fn past_the_last_gamma_there_is_no_light(rt: HostRuntime) -> Result<(), Fail> {
     let light = direct(
         &tangents,
         &photo,
-        &lamp(0, 1000, (0, 0), (1, 1)),
+        &lamp(Face::Down, 0, 1000, (0, 0), (1, 1)),
         middle(),
         above,
         Face::Down,
@@ -295,7 +298,7 @@ fn past_the_last_gamma_there_is_no_light(rt: HostRuntime) -> Result<(), Fail> {
 fn at_the_last_gamma_the_span_holds_both_sides(rt: HostRuntime) -> Result<(), Fail> {
     let tangents = TangentTable::build(rt.alloc())?;
     let photo = cut(rt.alloc())?;
-    let lamp = lamp(0, 1000, (0, 0), (1, 1));
+    let lamp = lamp(Face::Down, 0, 1000, (0, 0), (1, 1));
     let at = direct(
         &tangents,
         &photo,
