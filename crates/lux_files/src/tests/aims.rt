@@ -56,9 +56,16 @@ fn what_lies_behind_an_aim_is_dark(rt: HostRuntime) -> Result<(), Fail> {
     Ok(())
 }
 
-// The file has another intensity at each of C 0, 90, 180 and 270, the lamp is turned, and its rectangle has six points.
+/// A turned lamp of six points, aimed in a room whose six surfaces differ. Its file has another intensity at each of C 0, 90, 180 and 270.
+fn turned_room(alloc: Global, aim: &str, maintenance: u32) -> Result<String, Fail> {
+    let room = format!(in alloc;
+        "version = 2\n[room]\nsize = [2000, 2400, 2200]\nreflect = [500, 400, 300, 200, 600, 700]\npatch = 1200\n[[lamp]]\nat = [1300, 900, 1200]\nfile = \"round.IES\"\nturn = 20\nmaintenance = {maintenance}\nsize = [301, 600]\nsplit = [2, 3]\naim = \"{aim}\"\n[task]\nfrom = [0, 0]\nto = [2000, 2400]\nheight = 700\npoints = [2, 1]\n"
+    )?;
+    Ok(room)
+}
+
 #[test]
-fn a_turned_lamp_is_aimed_along_each_axis(rt: HostRuntime) -> Result<(), Fail> {
+fn a_turned_lamp_is_aimed_down_and_up(rt: HostRuntime) -> Result<(), Fail> {
     let alloc = rt.alloc();
     let files = [("round.IES", ROUND)];
     for (aim, maintenance, text) in [
@@ -74,6 +81,18 @@ fn a_turned_lamp_is_aimed_along_each_axis(rt: HostRuntime) -> Result<(), Fail> {
             709,
             "point 0 0 43.92 43.93\npoint 1 0 81.00 81.01\naverage 62.46 62.47\nuniformity 0.703 0.704\n",
         ),
+    ] {
+        let room = turned_room(alloc, aim, maintenance)?;
+        report(&rt, alloc, room.as_str(), &files, &[], Status::Done, text)?;
+    }
+    Ok(())
+}
+
+#[test]
+fn a_turned_lamp_is_aimed_at_each_wall(rt: HostRuntime) -> Result<(), Fail> {
+    let alloc = rt.alloc();
+    let files = [("round.IES", ROUND)];
+    for (aim, maintenance, text) in [
         // 66.67478, 139.01465; 102.84472; 0.648305
         (
             "-x",
@@ -99,9 +118,7 @@ fn a_turned_lamp_is_aimed_along_each_axis(rt: HostRuntime) -> Result<(), Fail> {
             "point 0 0 77.80 77.81\npoint 1 0 217.32 217.33\naverage 147.56 147.57\nuniformity 0.527 0.528\n",
         ),
     ] {
-        let room = format!(in alloc;
-            "version = 2\n[room]\nsize = [2000, 2400, 2200]\nreflect = [500, 400, 300, 200, 600, 700]\npatch = 1200\n[[lamp]]\nat = [1300, 900, 1200]\nfile = \"round.IES\"\nturn = 20\nmaintenance = {maintenance}\nsize = [301, 600]\nsplit = [2, 3]\naim = \"{aim}\"\n[task]\nfrom = [0, 0]\nto = [2000, 2400]\nheight = 700\npoints = [2, 1]\n"
-        )?;
+        let room = turned_room(alloc, aim, maintenance)?;
         report(&rt, alloc, room.as_str(), &files, &[], Status::Done, text)?;
     }
     Ok(())
