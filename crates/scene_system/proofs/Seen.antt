@@ -1,11 +1,12 @@
 -- Places in the room of an index, and vantages there.
-use Rattle.std.proofs.Common.{ℕ, zero, suc, Bool, true, inl, inr, ◌+◌, ◌%◌, ◌<◌, ◌≤◌, ◌≡◌, ◌++◌, List, [], ◌∷◌, All, length, get_or, take, refl, sym, ap, subst, arith, ◌∙◌}
+use Rattle.std.proofs.Common.{ℕ, zero, suc, Bool, true, inl, inr, ◌+◌, ◌/◌, ◌%◌, ◌<◌, ◌≤◌, ◌≡◌, ◌++◌, List, [], ◌∷◌, All, length, get_or, take, refl, sym, ap, subst, arith, ◌∙◌}
 use Rattle.std.proofs.lemmas.Bool.{cases_lt}
 use Rattle.std.proofs.lemmas.Int.{ints}
 use Rattle.std.proofs.lemmas.List.{get_or_default, map-append, take_more}
 use Rattle.std.proofs.lemmas.List.Elements.{All-nil, All-push}
 use Rattle.fx_base.specs.declared.weight.Weight.{Weight}
 use Rattle.room_layout.specs.Accepted.{IsLampIn}
+use Rattle.room_layout.specs.Across.{extent_of, parts_of}
 use Rattle.room_layout.specs.Place.{Place, point_of}
 use Rattle.room_layout.specs.Positions.{IsInReach}
 use Rattle.room_layout.specs.declared.geometry.Face.{Face}
@@ -22,8 +23,8 @@ use Rattle.sight_index.specs.declared.index.SightIndex.{SightIndex}
 use Rattle.sight_index.specs.declared.vantage.Vantage.{Vantage}
 use Rattle.patch_mesh.specs.declared.patch.Patch.{Patch}
 use Rattle.form_factor.specs.Weights.{IsCoefficient}
-use Rattle.direct_light.specs.Lamps.{first_points, lamp_place, lamp_points, part_count}
-use Rattle.direct_light.proofs.PointLists.{column_below, middle_most, row_below}
+use Rattle.direct_light.specs.Lamps.{first_points, lamp_place, lamp_points, part_count, part_of}
+use Rattle.direct_light.proofs.PointLists.{column_below, each_axis, middle_most, row_below}
 use Rattle.scene_system.specs.Light.{no_lamp}
 use Rattle.scene_system.specs.Parts.{ArePatchesOf}
 use Rattle.scene_system.specs.Positions.{ArePointsOfFirst}
@@ -66,15 +67,23 @@ clear_of_none room (b ∷ more) p q e none = absurd (omega (arith, none))
 
 -- ---- the points of a lamp
 
+-- the part along each axis that point k stands in is one of them
+part_inside : (l : Lamp) (k : ℕ) → 1 ≤ l.split_x → k < part_count l
+    → ((part_of l k).x < (parts_of l).x) × ((part_of l k).y < (parts_of l).y) × ((part_of l k).z < (parts_of l).z)
+part_inside l k some inside = each_axis (λ size parts i. i < parts) l.aim l.size_x l.size_y 0 l.split_x l.split_y 1 (k % l.split_x) (k / l.split_x) 0
+    (column_below k l.split_x some) (row_below k l.split_x l.split_y inside) (omega arith)
+
 lamp_place_in : (size : Size) (files : ℕ) (l : Lamp) (k : ℕ) → IsLampIn size files l → k < part_count l → IsPointIn size (point_of (lamp_place l k))
 unfolding lamp_place
 lamp_place_in size files l k is inside =
-    let column = middle_most (k % l.split_x) l.size_x l.split_x (column_below k l.split_x is.split_x.0) in
-    let row = middle_most _ l.size_y l.split_y (row_below k l.split_x l.split_y inside) in
+    let one = part_inside l k is.split_x.0 inside in
+    let x = middle_most (part_of l k).x (extent_of l).x (parts_of l).x one.0 in
+    let y = middle_most (part_of l k).y (extent_of l).y (parts_of l).y one.1 in
+    let z = middle_most (part_of l k).z (extent_of l).z (parts_of l).z one.2 in
     record {
-      x = let margin = is.x.1 in omega (arith, ints, column, margin);
-      y = let margin = is.y.1 in omega (arith, ints, row, margin);
-      z = let height = is.z in omega (arith, ints, height);
+      x = let margin = is.x.1 in omega (arith, ints, x, margin);
+      y = let margin = is.y.1 in omega (arith, ints, y, margin);
+      z = let margin = is.z.1 in omega (arith, ints, z, margin);
     }
 
 first_points_in : (size : Size) (files : ℕ) (l : Lamp) (n : ℕ) → IsLampIn size files l → n ≤ part_count l → All (IsPointIn size) (first_points l n)

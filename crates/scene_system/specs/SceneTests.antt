@@ -9,8 +9,9 @@ use Rattle.fx_base.specs.Root.{halved, root}
 use Rattle.fx_base.specs.Search.{greatest, root_digits, whole_root}
 use Rattle.series_enclose.specs.SeriesTests.{all_series}
 use Rattle.series_enclose.specs.Series.{upper_sum, lower_sum, power_over, arctan_term, one_fifth, one_of_239, pi}
+use Rattle.room_layout.specs.Across.{across}
 use Rattle.room_layout.specs.Place.{Place, in_front, squared_distance, task_place}
-use Rattle.room_layout.specs.declared.geometry.Face.TheVariants.{Up, East}
+use Rattle.room_layout.specs.declared.geometry.Face.TheVariants.{Up, Down, East}
 use Rattle.room_layout.specs.declared.room.Block.{Block}
 use Rattle.room_layout.specs.declared.room.Lamp.{Lamp}
 use Rattle.room_layout.specs.declared.room.Room.{Room}
@@ -27,7 +28,7 @@ use Rattle.photo_table.specs.Angles.{turn_later}
 use Rattle.photo_table.specs.Axis.{behind, ahead, between, piece, along, extreme}
 use Rattle.photo_table.specs.Hull.{gamma_extreme, plane_extreme, hull}
 use Rattle.photo_table.specs.Table.{Table, plane, value, end_at, bilinear}
-use Rattle.direct_light.specs.Directions.{step_from}
+use Rattle.direct_light.specs.Directions.{framed, step_from}
 use Rattle.direct_light.specs.Lamps.{lamp_place}
 use Rattle.direct_light.specs.Shares.{falloff, share_of, loosened}
 use Rattle.direct_light.specs.LampLight.{light_of_points, loose_light_of_points}
@@ -40,7 +41,7 @@ use Rattle.scene_system.specs.declared.fault.SceneFault.TheVariants.{TotalIntens
 
 -- fractions, roots, places and lamps
 unfoldable of_light : Unit {0}
-unfolding ratio whole half_power ◌+ᶠ◌ ◌-ᶠ◌ ◌*ᶠ◌ ◌/ᶠ◌ sum_to halved root root_digits whole_root in_front squared_distance is_blocked meets_box lamp_place falloff share_of loosened is_clear light_of_points loose_light_of_points light_of_first loose_light_of_first
+unfolding ratio whole half_power ◌+ᶠ◌ ◌-ᶠ◌ ◌*ᶠ◌ ◌/ᶠ◌ sum_to halved root root_digits whole_root in_front squared_distance is_blocked meets_box across lamp_place falloff share_of loosened is_clear light_of_points loose_light_of_points light_of_first loose_light_of_first
 of_light = tt
 
 -- patches and task points
@@ -50,7 +51,7 @@ of_mesh = tt
 
 -- tables and directions
 unfoldable of_tables : Unit {0}
-unfolding all_series lesser greater millionths greatest turn_later behind ahead between piece along extreme plane value end_at bilinear gamma_extreme plane_extreme hull step_from
+unfolding all_series lesser greater millionths greatest turn_later behind ahead between piece along extreme plane value end_at bilinear gamma_extreme plane_extreme hull step_from framed
     less_angle plus_angle quarter_angle in_quarter angle_c less_turn brought direction_c direction_gamma
 of_tables = tt
 
@@ -62,7 +63,7 @@ of_weights = tt
 -- ---- rooms
 
 abbrev lamp_at : ℕ → ℕ → ℕ → ℕ → Lamp
-lamp_at a b c candela = record { at = record { x = a; y = b; z = c }; shine = Even candela; turn = 0; maintenance = 1000; size_x = 0; size_y = 0; split_x = 1; split_y = 1 }
+lamp_at a b c candela = record { at = record { x = a; y = b; z = c }; shine = Even candela; turn = 0; maintenance = 1000; size_x = 0; size_y = 0; split_x = 1; split_y = 1; aim = Down }
 
 -- a cube of this edge and reflectance, with one patch to a face and one task point in the middle of the floor
 abbrev cube_of : ℕ → ℕ → List Block → List Lamp → Room

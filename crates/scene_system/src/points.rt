@@ -10,7 +10,7 @@ use room_layout::Room;
 use sight_index::{SightIndex, Vantage};
 use std::alloc::Global;
 
-/// The points that one lamp shines from, row by row along x.
+/// The points that one lamp shines from, row by row.
 #[derive(Drop)]
 pub struct LampPoints {
     pub points: Vec<Vantage>,

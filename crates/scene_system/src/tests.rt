@@ -10,7 +10,7 @@ use fork_rows::OpenGate;
 use fx_base::{Micro, Span, Tick, Weight};
 use photo_table::PhotoTable;
 use room_layout::{
-    Block, Blocks, FileUse, FileUses, Lamp, Lamps, Limits, Name, Reflects, Room, Shine, Size,
+    Block, Blocks, Face, FileUse, FileUses, Lamp, Lamps, Limits, Name, Reflects, Room, Shine, Size,
     TaskGrid,
 };
 use series_enclose::TangentTable;
@@ -82,6 +82,7 @@ fn lamp(candela: u32) -> Lamp
         size_y: 0,
         split_x: 1,
         split_y: 1,
+        aim: Face::Down,
     }
 }
 
@@ -103,6 +104,7 @@ fn file_lamp(turn: u16) -> Lamp
         size_y: 0,
         split_x: 2,
         split_y: 1,
+        aim: Face::Down,
     }
 }
 

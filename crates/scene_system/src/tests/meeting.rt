@@ -4,7 +4,9 @@ ghost use Rattle.std.specs.Prelude.{◌≡◌, All, IfOk, length};
 
 use crate::assemble;
 use fork_rows::Gate;
-use room_layout::{Blocks, FileUses, Lamp, Lamps, Limits, Reflects, Room, Shine, Size, TaskGrid};
+use room_layout::{
+    Blocks, Face, FileUses, Lamp, Lamps, Limits, Reflects, Room, Shine, Size, TaskGrid,
+};
 use series_enclose::TangentTable;
 use std::alloc::{AllocError, Global};
 use std::sync::atomic::{AtomicU64, Ordering};
@@ -71,6 +73,7 @@ fn channel(alloc: Global) -> Result<Room, AllocError>
         size_y: 0,
         split_x: 1,
         split_y: 1,
+        aim: Face::Down,
     };
     Ok(Room {
         size: Size {
