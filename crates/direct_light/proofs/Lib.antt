@@ -1,6 +1,7 @@
 pub mod Falls
 pub mod Frames
 pub mod MiddleLamps
+pub mod Found
 pub mod Narrow
 pub mod Ordered
 pub mod PointLists

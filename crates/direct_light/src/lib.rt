@@ -9,10 +9,12 @@ mod light;
 mod points;
 mod share;
 mod step;
+mod sum;
 mod way;
 
 pub use light::{direct, even_light};
 pub use points::lamp_points;
+pub use sum::together;
 
 #[cfg(test)]
 mod tests;

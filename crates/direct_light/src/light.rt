@@ -9,6 +9,7 @@ ghost use Rattle.photo_table.specs.Kept.{IsGreatest};
 ghost use Rattle.photo_table.specs.Laws.{StandsFor};
 ghost use Rattle.photo_table.specs.Table.{Table, upper};
 ghost use Rattle.direct_light.specs.Directions.{loose_seen, seen};
+ghost use Rattle.direct_light.specs.Found.{greatest_intensity, most_light};
 ghost use Rattle.direct_light.specs.Lamps.{IsLamp, part_count};
 ghost use Rattle.direct_light.specs.Shares.{loosened, share_of};
 ghost use Rattle.direct_light.specs.Ways.{IsDark};
@@ -86,6 +87,7 @@ pub fn direct(
     ensures dark { IsDark (place_of from) (place_of at) face clear → (result.lo ≡ pos 0) × (result.hi ≡ pos 0) }
     ensures low { pos 0 ≤ℤ result.lo }
     ensures most { (m : ℕ) → IsGreatest upper photo.now (ticks m) → natural result.hi * part_count lamp.now ≤ (m + 1) * 4000000 + 2 * part_count lamp.now }
+    ensures bright { natural result.hi * part_count lamp.now ≤ most_light greatest_intensity (part_count lamp.now) }
 {
     let Some(way) = way_to(from, at, face, clear) else {
         return Span::whole(0);
