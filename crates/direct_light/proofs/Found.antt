@@ -39,7 +39,7 @@ pub file_share : (photos : List Table) (greatest : ℕ) (l : Lamp) (q p : Place)
 unfolding share_of
 file_share photos greatest l q p face clear k kept d e inside same meets near low most =
     let stands : (tables : List Table) → AreTablesOf photos tables → StandsFor kept (table_at tables k) =
-        λ tables are. rw same (rounded_stands (table_at photos k) (table_at tables k) (are.each k inside)) in
+    λ tables are. rw same (rounded_stands (table_at photos k) (table_at tables k) (are.each k inside)) in
     record {
       meets = λ tables are n. rw e (meets (table_at tables k) (stands tables are) n);
       near = λ tables are n. rw e (near (table_at tables k) (stands tables are) n);

@@ -63,6 +63,7 @@ const COVER: Block = Block {
     reflect: 500,
 };
 
+#[tactic(auto, unfolding(room_layout::specs::Across::across))]
 fn lamp(candela: u32) -> Lamp
     requires { candela ≤ 10000000 }
     ensures within { IsLampIn (record { x = 2000; y = 2000; z = 2000 }) 0 result }
@@ -87,6 +88,7 @@ fn lamp(candela: u32) -> Lamp
 }
 
 /// A lamp of the second of two files at the same place, a fifth of whose light is lost, 400 mm wide and split in two along x.
+#[tactic(auto, unfolding(room_layout::specs::Across::across))]
 fn file_lamp(turn: u16) -> Lamp
     requires { turn ≤ 359 }
     ensures { IsLampIn (record { x = 2000; y = 2000; z = 2000 }) 2 result }

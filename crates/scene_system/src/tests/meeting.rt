@@ -56,6 +56,7 @@ impl Gate for Meeting {
 
 /// A channel of 10 m by 1 m by 1 m, cut into patches of 250 mm and with 32 by 21 task points on its floor, with a lamp of 100 cd in the
 /// middle of its ceiling.
+#[tactic(auto, unfolding(room_layout::specs::Across::across))]
 fn channel(alloc: Global) -> Result<Room, AllocError>
     ensures accepted { IfOk result (λ room. IsAccepted room) }
     ensures files { IfOk result (λ room. length room.files ≡ 0) }
