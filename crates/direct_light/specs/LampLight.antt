@@ -4,7 +4,7 @@ use Rattle.std.specs.Prelude.{ℕ, List}
 use Rattle.fx_base.specs.Interval.{Interval, sum_of}
 use Rattle.room_layout.specs.Place.{Place}
 use Rattle.room_layout.specs.declared.geometry.Face.{Face}
-use Rattle.room_layout.specs.declared.geometry.Face.TheVariants.{Down}
+use Rattle.room_layout.specs.declared.geometry.Face.TheVariants.{Up}
 use Rattle.room_layout.specs.declared.room.Lamp.{Lamp}
 use Rattle.room_layout.specs.declared.room.Room.{Room}
 use Rattle.room_layout.specs.declared.room.Shine.TheVariants.{Even}
@@ -15,7 +15,7 @@ use Rattle.direct_light.specs.Shares.{share, loose_share}
 
 -- what stands for a lamp past the last one of a room
 abbrev pub no_lamp : Lamp
-no_lamp = record { at = record { x = 0; y = 0; z = 0 }; shine = Even 0; turn = 0; maintenance = 0; size_x = 0; size_y = 0; split_x = 0; split_y = 0; aim = Down }
+no_lamp = record { at = record { x = 0; y = 0; z = 0 }; shine = Even 0; turn = 0; maintenance = 0; size_x = 0; size_y = 0; split_x = 0; split_y = 0; aim = Up }
 
 -- its first `count` points together
 unfoldable pub light_of_points : ℕ → ℕ → List Table → Room → Place → Face → Lamp → Interval

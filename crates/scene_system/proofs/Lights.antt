@@ -1,103 +1,36 @@
 -- The light of several points, and of several lamps, one after the other.
 use Rattle.std.proofs.Common.{ℕ, suc, ◌+◌, ◌*◌, ◌^◌, ◌<◌, ◌≤◌, ◌≡◌, ℤ, pos, negsuc, ◌≤ℤ◌, List, length, map, take, sum_by, arith, ap, sym, ◌∙◌, subst}
 use Rattle.std.proofs.lemmas.Int.{ints}
-use Rattle.std.proofs.Math.Nat.{mul-le-mul, le_of_mul-le-mul_left}
 use Rattle.std.proofs.lemmas.List.{get_or-map, length-map, take_all}
 use Rattle.std.proofs.lemmas.List.Sums.{sum_by_more}
 use Rattle.std.specs.Prelude.{slice_index_or}
-use Rattle.fx_base.specs.Fraction.{sum_to}
-use Rattle.fx_base.specs.Interval.{Interval, Meets, LiesIn, sum_of}
+use Rattle.fx_base.specs.Interval.{Meets, LiesIn}
 use Rattle.fx_base.specs.Ends.{Ends}
 use Rattle.fx_base.specs.Units.{natural, of_span}
-use Rattle.fx_base.proofs.Order.{le_trans_f, add_le_f}
-use Rattle.fx_base.proofs.Sums.{ticks_split, ticks_join, no_ticks}
 use Rattle.room_layout.specs.Accepted.{IsLampIn, IsShine}
 use Rattle.room_layout.specs.Place.{Place, place_of, point_of}
 use Rattle.room_layout.specs.declared.geometry.Face.{Face}
 use Rattle.room_layout.specs.declared.geometry.Point.{Point}
-use Rattle.room_layout.specs.declared.geometry.Size.{Size}
 use Rattle.room_layout.specs.declared.room.Lamp.{Lamp}
 use Rattle.room_layout.specs.declared.room.Room.{Room}
 use Rattle.sight_index.specs.declared.vantage.Vantage.{Vantage}
 use Rattle.photo_table.specs.Table.{Table}
 use Rattle.interval_system.specs.System.{IsDirectLight}
 use Rattle.direct_light.specs.Lamps.{lamp_place, lamp_points, part_count}
-use Rattle.direct_light.specs.Shares.{loose_share, share}
 use Rattle.scene_system.specs.Causes.{greatest_total, ticks_of, total_ticks}
 use Rattle.sight_line.specs.Sight.{is_clear}
-use Rattle.direct_light.specs.LampLight.{lamp_light, light_of_points, loose_lamp_light, loose_light_of_points}
+use Rattle.direct_light.specs.LampLight.{lamp_light, loose_lamp_light}
 use Rattle.scene_system.specs.Light.{light_of_first, loose_light_of_first, no_lamp}
 use Rattle.scene_system.specs.Parts.{IsDirectFor}
-use Rattle.scene_system.specs.Positions.{IsLampLight, IsShare, most_light}
+use Rattle.scene_system.specs.Positions.{IsLampLight, IsShare}
 use Rattle.scene_system.specs.Sight.{at_of}
 use Rattle.scene_system.specs.Tables.{AreKept, AreTablesOf}
 use Rattle.scene_system.proofs.Kept.{ticks_most}
+use Rattle.direct_light.specs.Found.{most_light}
+use Rattle.direct_light.proofs.Found.{lamp_most, more_meets, more_near, none_meets, none_near, parts_of, IsTogether}
 use Rattle.direct_light.proofs.PointLists.{lamp_point_at, length-lamp_points}
 
--- ---- sums of spans
-
-none_meets : (f : ℕ → Interval) (s : Ends) → s.lo ≡ pos 0 → s.hi ≡ pos 0 → Meets (of_span s) (sum_of 0 f)
-unfolding sum_to
-none_meets f s low high = rw (low, high) (record { above = no_ticks.0; below = no_ticks.1 })
-
-none_near : (f : ℕ → Interval) (s : Ends) → s.lo ≡ pos 0 → s.hi ≡ pos 0 → LiesIn (of_span s) (sum_of 0 f)
-unfolding sum_to
-none_near f s low high = rw (low, high) (record { lower = no_ticks.1; upper = no_ticks.0 })
-
--- a span is two others together
-record IsTogether (s t r : Ends) : Type 0 where
-  low : r.lo ≡ pos (natural s.lo + natural t.lo)
-  high : r.hi ≡ pos (natural s.hi + natural t.hi)
-
-more_meets : (f : ℕ → Interval) (k : ℕ) (s t r : Ends) → IsTogether s t r → Meets (of_span s) (sum_of k f) → Meets (of_span t) (f k) → Meets (of_span r) (sum_of (suc k) f)
-unfolding sum_to
-more_meets f k s t r is g h = rw (is.low, is.high) (record {
-  above = le_trans_f (ticks_split (natural s.lo) (natural t.lo)) (add_le_f g.above h.above);
-  below = le_trans_f (add_le_f g.below h.below) (ticks_join (natural s.hi) (natural t.hi));
-})
-
-more_near : (f : ℕ → Interval) (k : ℕ) (s t r : Ends) → IsTogether s t r → LiesIn (of_span s) (sum_of k f) → LiesIn (of_span t) (f k) → LiesIn (of_span r) (sum_of (suc k) f)
-unfolding sum_to
-more_near f k s t r is g h = rw (is.low, is.high) (record {
-  lower = le_trans_f (add_le_f g.lower h.lower) (ticks_join (natural s.lo) (natural t.lo));
-  upper = le_trans_f (ticks_split (natural s.hi) (natural t.hi)) (add_le_f g.upper h.upper);
-})
-
 -- ---- the points of a lamp
-
--- how many parts a lamp of a room has
-pub parts_of : (size : Size) (files : ℕ) (l : Lamp) → IsLampIn size files l → (1 ≤ part_count l) × (part_count l ≤ 64)
-parts_of size files l is =
-    let x = is.split_x in
-    let y = is.split_y in
-    let low : 1 * 1 ≤ l.split_x * l.split_y = mul-le-mul (x.0) (y.0) in
-    let high : l.split_x * l.split_y ≤ 8 * 8 = mul-le-mul (x.1) (y.1) in
-    (low, high)
-
--- what a lamp within the limit gives is at most 2^82 ticks
-pub lamp_most : (t parts : ℕ) → t ≤ greatest_total → parts ≤ 64 → most_light t parts ≤ 2 ^ 82
-lamp_most t parts dim few = omega (arith, dim, few)
-
-share_most : (hi parts m : ℕ) → 1 ≤ parts → hi * parts ≤ m → hi ≤ m
-share_most hi parts m some h = let g : hi * 1 ≤ hi * parts = mul-le-mul {n₁ = hi} {m₁ = 1} {n₂ = hi} {m₂ = parts} (omega arith) some in omega (arith, g, h)
-
--- a span is the light of the first points of a lamp
-pub record IsLightOfPoints (photos : List Table) (room : Room) (p : Place) (face : Face) (l : Lamp) (count : ℕ) (s : Ends) : Type 0 where
-  pub meets : (tables : List Table) → AreTablesOf photos tables → (n : ℕ) → Meets (of_span s) (light_of_points n count tables room p face l)
-  pub near : (tables : List Table) → AreTablesOf photos tables → (n : ℕ) → LiesIn (of_span s) (loose_light_of_points n count tables room p face l)
-  pub low : pos 0 ≤ℤ s.lo
-  pub most : natural s.hi * part_count l ≤ count * most_light (ticks_of photos l) (part_count l)
-  pub fits : natural s.hi ≤ count * 2 ^ 82
-
-pub no_points : (photos : List Table) (room : Room) (p : Place) (face : Face) (l : Lamp) (s : Ends) → s.lo ≡ pos 0 → s.hi ≡ pos 0 → IsLightOfPoints photos room p face l 0 s
-unfolding light_of_points loose_light_of_points
-no_points photos room p face l s low high = record {
-  meets = λ tables are n. none_meets (λ k. share n tables l (lamp_place l k) p face (is_clear room (lamp_place l k) p)) s low high;
-  near = λ tables are n. none_near (λ k. loose_share n tables l (lamp_place l k) p face (is_clear room (lamp_place l k) p)) s low high;
-  low = rw low (omega (arith, ints));
-  most = rw high (omega arith);
-  fits = rw high (omega arith);
-}
 
 pub lamp_count : (l : Lamp) (points : List Vantage) → map at_of points ≡ lamp_points l → length points ≡ part_count l
 lamp_count l points are = sym (length-map points at_of) ∙ ap length are ∙ length-lamp_points l
@@ -117,50 +50,11 @@ share_at photos room p face l points k d t are inside h =
     subst P (ap (λ (z : Point). place_of z) (point_there l points k d are inside)) h
 
 pub lamp_bounds : (photos : List Table) (room : Room) (l : Lamp) → IsLampIn room.size (length room.files) l → length photos ≡ length room.files → AreKept photos
-    → (1 ≤ part_count l) × (most_light (ticks_of photos l) (part_count l) ≤ 2 ^ 82)
+    → most_light (ticks_of photos l) (part_count l) ≤ 2 ^ 82
 lamp_bounds photos room l is count kept =
     let parts = parts_of room.size (length room.files) l is in
     let shine : IsShine (length photos) l.shine = rw count is.shine in
-    (parts.0, lamp_most (ticks_of photos l) (part_count l) (ticks_most photos l shine kept) (parts.1))
-
-pub light_most : (photos : List Table) (room : Room) (p : Place) (face : Face) (l : Lamp) (k : ℕ) (s : Ends) → IsLampIn room.size (length room.files) l → k < part_count l
-    → IsLightOfPoints photos room p face l k s → natural s.hi ≤ 2 ^ 100
-light_most photos room p face l k s is inside h = let parts = parts_of room.size (length room.files) l is in let fits = h.fits in omega (arith, fits, parts.1, inside)
-
-more_parts : (a b parts k m : ℕ) → a * parts ≤ k * m → b * parts ≤ m → (a + b) * parts ≤ suc k * m
-more_parts a b parts k m g h = omega (arith, g, h)
-
-pub one_more_point : (photos : List Table) (room : Room) (p : Place) (face : Face) (l : Lamp) (s t r : Ends) (k j : ℕ) → j ≡ suc k → 1 ≤ part_count l
-    → most_light (ticks_of photos l) (part_count l) ≤ 2 ^ 82 → IsLightOfPoints photos room p face l k s
-    → IsShare photos l (lamp_place l k) p face (is_clear room (lamp_place l k) p) t
-    → r.lo ≡ pos (natural s.lo + natural t.lo) → r.hi ≡ pos (natural s.hi + natural t.hi) → IsLightOfPoints photos room p face l j r
-unfolding light_of_points loose_light_of_points
-one_more_point photos room p face l s t r k j e some dim so_far is low high =
-    let both : IsTogether s t r = record { low = low; high = high } in
-    let one : natural t.hi ≤ most_light (ticks_of photos l) (part_count l) = share_most (natural t.hi) (part_count l) (most_light (ticks_of photos l) (part_count l)) some is.most in
-    rw e (record {
-      meets = λ tables are n. more_meets (λ k. share n tables l (lamp_place l k) p face (is_clear room (lamp_place l k) p)) k s t r both (so_far.meets tables are n) (is.meets tables are n);
-      near = λ tables are n. more_near (λ k. loose_share n tables l (lamp_place l k) p face (is_clear room (lamp_place l k) p)) k s t r both (so_far.near tables are n) (is.near tables are n);
-      low = rw low (omega (arith, ints));
-      most = rw high (more_parts (natural s.hi) (natural t.hi) (part_count l) k (most_light (ticks_of photos l) (part_count l)) so_far.most is.most);
-      fits = rw high (let h = so_far.fits in omega (arith, h, one, dim));
-    })
-
-parts_cancel : (hi parts m : ℕ) → 1 ≤ parts → hi * parts ≤ parts * m → hi ≤ m
-parts_cancel hi parts m some h = le_of_mul-le-mul_left {k = parts} (omega (arith, h)) some
-
-pub all_points : (photos : List Table) (room : Room) (p : Place) (face : Face) (l : Lamp) (count : ℕ) (s : Ends) → count ≡ part_count l → 1 ≤ part_count l
-    → IsLightOfPoints photos room p face l count s → IsLampLight photos room p face l s
-all_points photos room p face l count s e some h =
-    let m = h.meets in
-    let n = h.near in
-    let most = h.most in
-    record {
-      meets = rw e at m;
-      near = rw e at n;
-      low = h.low;
-      most = parts_cancel (natural s.hi) (part_count l) (most_light (ticks_of photos l) (part_count l)) some (rw e at most);
-    }
+    lamp_most (ticks_of photos l) (part_count l) (ticks_most photos l shine kept) (parts.1)
 
 -- ---- the lamps of a room
 

@@ -1,6 +1,5 @@
 -- The share of one point of a lamp as the program finds it.
-use Rattle.std.proofs.Common.{ℕ, ◌+◌, ◌*◌, ◌<◌, ◌≤◌, ◌≡◌, pos, ◌≤ℤ◌, Bool, false, List, length, arith, inl, inr, sym, ◌∙◌}
-use Rattle.std.proofs.lemmas.Int.{ints}
+use Rattle.std.proofs.Common.{ℕ, ◌+◌, ◌*◌, ◌<◌, ◌≤◌, ◌≡◌, pos, ◌≤ℤ◌, Bool, false, List, length, arith, inl, inr, refl, sym, ◌∙◌}
 use Rattle.fx_base.specs.Ends.{Ends}
 use Rattle.fx_base.specs.Fraction.{half_power, whole}
 use Rattle.fx_base.specs.Interval.{LiesIn, Meets, exact, outward}
@@ -14,13 +13,12 @@ use Rattle.room_layout.specs.declared.room.Shine.TheVariants.{Even, File}
 use Rattle.photo_table.specs.Kept.{IsGreatest}
 use Rattle.photo_table.specs.Laws.{StandsFor}
 use Rattle.photo_table.specs.Table.{Table, upper}
-use Rattle.photo_table.proofs.Exactly.{rounded_stands}
 use Rattle.direct_light.specs.Directions.{loose_seen, seen}
 use Rattle.direct_light.specs.Lamps.{part_count}
-use Rattle.direct_light.specs.Shares.{intensity, loose_intensity, loosened, share_of, table_at}
+use Rattle.direct_light.specs.Shares.{loosened, share_of, table_at}
 use Rattle.direct_light.specs.Ways.{IsDark}
-use Rattle.direct_light.proofs.Shown.{dark_meets, dark_near}
-use Rattle.scene_system.specs.Causes.{greatest_ticks}
+use Rattle.direct_light.proofs.Found as found
+use Rattle.scene_system.specs.Causes.{greatest_ticks, ticks_of}
 use Rattle.scene_system.specs.Positions.{IsShare}
 use Rattle.scene_system.specs.Tables.{AreKept}
 use Rattle.scene_system.proofs.Kept.{kept_at}
@@ -39,13 +37,9 @@ pub file_share : (photos : List Table) (l : Lamp) (q p : Place) (face : Face) (c
     → pos 0 ≤ℤ d.lo
     → ((m : ℕ) → IsGreatest upper (table_at photos k) (ticks m) → natural d.hi * part_count l ≤ (m + 1) * 4000000 + 2 * part_count l)
     → IsShare photos l q p face clear d
-unfolding share_of
-file_share photos l q p face clear k d e inside kept meets near low most = record {
-  meets = λ tables are n. rw e (meets (table_at tables k) (rounded_stands (table_at photos k) (table_at tables k) (are.each k inside)) n);
-  near = λ tables are n. rw e (near (table_at tables k) (rounded_stands (table_at photos k) (table_at tables k) (are.each k inside)) n);
-  low = low;
-  most = rw e (most (greatest_ticks (table_at photos k)) (kept_at photos k kept inside).greatest);
-}
+file_share photos l q p face clear k d e inside kept meets near low most =
+    found.file_share photos (ticks_of photos l) l q p face clear k (table_at photos k) d e inside refl meets near low
+    (rw e (most (greatest_ticks (table_at photos k)) (kept_at photos k kept inside).greatest))
 
 -- ---- a lamp that shines evenly
 
@@ -53,25 +47,15 @@ pub even_share : (photos : List Table) (l : Lamp) (q p : Place) (face : Face) (c
     → ((n : ℕ) → Meets (of_span d) (share_of n (exact (whole candela)) l q p face clear))
     → ((n : ℕ) → LiesIn (of_span d) (loosened (share_of n (outward (half_power 30) (exact (whole candela))) l q p face clear)))
     → pos 0 ≤ℤ d.lo → natural d.hi * part_count l ≤ candela * 68719476736 * 4000000 + 2 * part_count l → IsShare photos l q p face clear d
-unfolding share_of
-even_share photos l q p face clear candela d e meets near low most = record {
-  meets = λ tables are n. rw e (meets n);
-  near = λ tables are n. rw e (near n);
-  low = low;
-  most = rw e (omega (arith, most));
-}
+even_share photos l q p face clear candela d e meets near low most =
+    found.even_share photos (ticks_of photos l) l q p face clear candela d e meets near low (rw e (omega (arith, most)))
 
 -- ---- a point that gives nothing
 
 -- a span of no ticks, where the plane has nothing of the point
 dark : (photos : List Table) (l : Lamp) (q p : Place) (face : Face) (clear : Bool) (d : Ends) → IsDark q p face clear → d.lo ≡ pos 0 → d.hi ≡ pos 0
     → IsShare photos l q p face clear d
-dark photos l q p face clear d none low high = record {
-  meets = λ tables are n. dark_meets n (intensity n tables l q p) d l q p face clear none low high;
-  near = λ tables are n. dark_near n (loose_intensity n tables l q p) d l q p face clear none low high;
-  low = rw low (omega (arith, ints));
-  most = rw high (omega arith);
-}
+dark photos l q p face clear d none low high = found.dark_share photos (ticks_of photos l) l q p face clear d none low high
 
 pub behind_share : (photos : List Table) (l : Lamp) (q p h t : Place) (face : Face) (clear : Bool) (above : ℕ) (d : Ends) → h ≡ p → t ≡ q → above ≡ in_front face h t → above ≡ 0
     → d.lo ≡ pos 0 → d.hi ≡ pos 0 → IsShare photos l q p face clear d

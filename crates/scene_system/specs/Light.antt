@@ -3,17 +3,12 @@ use Rattle.std.specs.Prelude.{ℕ, List, length, slice_index_or}
 use Rattle.fx_base.specs.Interval.{Interval, sum_of}
 use Rattle.room_layout.specs.Place.{Place}
 use Rattle.room_layout.specs.declared.geometry.Face.{Face}
-use Rattle.room_layout.specs.declared.geometry.Face.TheVariants.{Up}
-use Rattle.room_layout.specs.declared.room.Lamp.{Lamp}
 use Rattle.room_layout.specs.declared.room.Room.{Room}
-use Rattle.room_layout.specs.declared.room.Shine.TheVariants.{Even}
 use Rattle.photo_table.specs.Table.{Table}
 use Rattle.direct_light.specs.LampLight.{lamp_light, loose_lamp_light}
+pub use Rattle.direct_light.specs.LampLight.{no_lamp}
 
 -- ---- all lamps of a room, where `tables` are the exact tables of its files, in their order
-
-abbrev pub no_lamp : Lamp
-no_lamp = record { at = record { x = 0; y = 0; z = 0 }; shine = Even 0; turn = 0; maintenance = 0; size_x = 0; size_y = 0; split_x = 0; split_y = 0; aim = Up }
 
 -- the first `count` lamps together
 unfoldable pub light_of_first : ℕ → ℕ → List Table → Room → Place → Face → Interval

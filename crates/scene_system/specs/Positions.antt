@@ -1,22 +1,18 @@
 -- The light that the program finds at a place: that of one point of a lamp, and of one lamp. `photos` are the tables that it keeps of the
 -- room's files.
-use Rattle.std.specs.Prelude.{ℕ, ◌+◌, ◌*◌, ◌<◌, ◌≡◌, ◌≤◌, pos, ◌≤ℤ◌, Bool, List, length, slice_index_or}
+use Rattle.std.specs.Prelude.{ℕ, ◌<◌, ◌≡◌, Bool, List, length, slice_index_or}
 use Rattle.fx_base.specs.Ends.{Ends}
-use Rattle.fx_base.specs.Interval.{Meets, LiesIn}
-use Rattle.fx_base.specs.Units.{natural, of_span}
 use Rattle.room_layout.specs.Place.{Place}
 use Rattle.room_layout.specs.declared.geometry.Face.{Face}
 use Rattle.room_layout.specs.declared.room.Lamp.{Lamp}
 use Rattle.room_layout.specs.declared.room.Room.{Room}
 use Rattle.sight_index.specs.declared.index.SightIndex.{SightIndex}
 use Rattle.photo_table.specs.Table.{Table}
-use Rattle.direct_light.specs.Lamps.{lamp_points, part_count}
-use Rattle.direct_light.specs.Shares.{share, loose_share}
+use Rattle.direct_light.specs.Found as found
+use Rattle.direct_light.specs.Lamps.{lamp_points}
 use Rattle.scene_system.specs.Causes.{ticks_of}
-use Rattle.direct_light.specs.LampLight.{lamp_light, loose_lamp_light}
 use Rattle.scene_system.specs.Light.{no_lamp}
 use Rattle.scene_system.specs.Sight.{AreVantagesOf}
-use Rattle.scene_system.specs.Tables.{AreTablesOf}
 use Rattle.scene_system.specs.declared.points.LampPoints.{LampPoints}
 
 -- the points of the first `count` lamps of a room, lamp by lamp
@@ -27,20 +23,9 @@ pub record ArePointsOfFirst (room : Room) (index : SightIndex) (count : ℕ) (po
 abbrev pub ArePointsOf : Room → SightIndex → List LampPoints → Type 0
 ArePointsOf room index points = ArePointsOfFirst room index (length room.lamps) points
 
--- the most that a lamp of so many ticks and parts gives, in ticks: at half a millimetre, and what rounding adds for each part
-abbrev pub most_light : ℕ → ℕ → ℕ
-most_light ticks parts = (ticks + 1) * 4000000 + 2 * parts
+-- the share of a lamp's point q, and the light of all its points together, where the lamp's greatest intensity is that of its file
+abbrev pub IsShare : List Table → Lamp → Place → Place → Face → Bool → Ends → Type 0
+IsShare photos l q p face clear d = found.IsShare photos (ticks_of photos l) l q p face clear d
 
--- a span meets the share of a lamp's point q at every depth, and lies in the loose form of it, whichever exact tables the kept ones are of
-pub record IsShare (photos : List Table) (l : Lamp) (q p : Place) (face : Face) (clear : Bool) (d : Ends) : Type 0 where
-  pub meets : (tables : List Table) → AreTablesOf photos tables → (n : ℕ) → Meets (of_span d) (share n tables l q p face clear)
-  pub near : (tables : List Table) → AreTablesOf photos tables → (n : ℕ) → LiesIn (of_span d) (loose_share n tables l q p face clear)
-  pub low : pos 0 ≤ℤ d.lo
-  pub most : natural d.hi * part_count l ≤ most_light (ticks_of photos l) (part_count l)
-
--- the same of the light of all its points together
-pub record IsLampLight (photos : List Table) (room : Room) (p : Place) (face : Face) (l : Lamp) (d : Ends) : Type 0 where
-  pub meets : (tables : List Table) → AreTablesOf photos tables → (n : ℕ) → Meets (of_span d) (lamp_light n tables room p face l)
-  pub near : (tables : List Table) → AreTablesOf photos tables → (n : ℕ) → LiesIn (of_span d) (loose_lamp_light n tables room p face l)
-  pub low : pos 0 ≤ℤ d.lo
-  pub most : natural d.hi ≤ most_light (ticks_of photos l) (part_count l)
+abbrev pub IsLampLight : List Table → Room → Place → Face → Lamp → Ends → Type 0
+IsLampLight photos room p face l d = found.IsLampLight photos (ticks_of photos l) room p face l d

@@ -4,16 +4,12 @@ use Rattle.fx_base.specs.Units.{ticks}
 use Rattle.room_layout.specs.declared.room.Lamp.{Lamp}
 use Rattle.room_layout.specs.declared.room.Room.{Room}
 use Rattle.room_layout.specs.declared.room.Shine.TheVariants.{Even, File}
-use Rattle.photo_table.specs.Exact.{IsExact, IsIntensityTable, IsRoundedOf}
+use Rattle.photo_table.specs.Exact.{IsExact, IsIntensityTable}
 use Rattle.photo_table.specs.Kept.{IsGreatest}
 use Rattle.photo_table.specs.Table.{Table, IsTable, upper}
 use Rattle.direct_light.specs.Shares.{table_at}
+pub use Rattle.direct_light.specs.Tables.{AreTablesOf}
 use Rattle.scene_system.specs.Causes.{greatest_ticks, greatest_total}
-
--- the program's tables are the exact ones rounded to ticks, file by file
-pub record AreTablesOf (photos tables : List Table) : Type 0 where
-  pub count : length photos ≡ length tables
-  pub each : (k : ℕ) → k < length photos → IsRoundedOf (table_at photos k) (table_at tables k)
 
 -- one table for each file of the room, with exact numbers
 pub record AreExactTables (room : Room) (tables : List Table) : Type 0 where

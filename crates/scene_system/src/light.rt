@@ -1,5 +1,5 @@
 //! The light that lamps give at a place.
-ghost use Rattle.std.specs.Prelude.{◌≡◌, ◌+◌, ◌^◌, ◌≤◌, ◌≤ℤ◌, pos, true, length};
+ghost use Rattle.std.specs.Prelude.{◌≡◌, ◌^◌, ◌≤◌, true, length};
 ghost use Rattle.fx_base.specs.Units.{natural};
 ghost use Rattle.room_layout.specs.Accepted.{IsLampIn};
 ghost use Rattle.room_layout.specs.Place.{place_of};
@@ -15,7 +15,7 @@ ghost use Rattle.scene_system.specs.Sources.{AreSources};
 
 use crate::sight::is_clear;
 use crate::sources::Sources;
-use direct_light::{direct, even_light};
+use direct_light::{direct, even_light, together};
 use fx_base::Span;
 use room_layout::{Face, Lamp, Point, Shine, in_front, position_of};
 use sight_index::Vantage;
@@ -63,21 +63,6 @@ fn light_of_point(sources: &Sources, lamp: &Lamp, from: &Vantage, at: &Vantage, 
         return Span::whole(0);
     }
     open_light(sources, lamp, from.at, at.at, face)
-}
-
-/// Two lights together.
-fn together(a: Span, b: Span) -> Span
-    requires a { pos 0 ≤ℤ a.lo }
-    requires b { pos 0 ≤ℤ b.lo }
-    requires a_high { natural a.hi ≤ 2 ^ 100 }
-    requires b_high { natural b.hi ≤ 2 ^ 100 }
-    ensures low { result.lo ≡ pos (natural a.lo + natural b.lo) }
-    ensures high { result.hi ≡ pos (natural a.hi + natural b.hi) }
-{
-    // the ends of each are in order
-    let _first = a.lo();
-    let _second = b.lo();
-    a.add(b)
 }
 
 /// The light of all points of a lamp on a plane with this face at a point.

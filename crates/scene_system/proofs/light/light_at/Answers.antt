@@ -4,7 +4,8 @@ use Rattle.room_layout.specs.Accepted.{IsLampIn}
 use Rattle.room_layout.specs.Place.{place_of}
 use Rattle.scene_system.specs.Light.{no_lamp}
 use Rattle.std.specs.Prelude.{slice_index_or}
-use Rattle.scene_system.proofs.Lights.{no_lights, one_more_light, parts_of}
+use Rattle.direct_light.proofs.Found.{parts_of}
+use Rattle.scene_system.proofs.Lights.{no_lights, one_more_light}
 use Rattle.scene_system.proofs.light.light_at.Goals as goal
 
 pub loop-k-init : goal.loop-k-init
