@@ -1,5 +1,6 @@
 //! Routes through a room of 6 m by 6 m by 3 m. The values are those that expected/route.py prints.
-ghost use Rattle.std.specs.Prelude.{◌≡◌, ◌≤◌};
+ghost use Rattle.std.specs.Prelude.{◌≡◌, ◌≤◌, length, IfOk};
+ghost use Rattle.room_layout.specs.Accepted.{IsAccepted};
 ghost use Rattle.escape_route.specs.Ratios.{IsLight};
 ghost use Rattle.escape_route.specs.Routes.{IsWithinReach};
 
@@ -9,7 +10,7 @@ use crate::{
 };
 use fx_base::Span;
 use limit_verdict::Verdict;
-use room_layout::read_room;
+use room_layout::{Room, read_room};
 use series_enclose::TangentTable;
 use std::alloc::Global;
 use std::test::Fail;
@@ -97,6 +98,20 @@ fn a_route_is_refused_by_its_line_first(rt: HostRuntime) -> Result<(), Fail> {
     Ok(())
 }
 
+/// The room above. Its lamps use no files.
+fn lit_room(alloc: Global) -> Result<Room, Fail>
+    ensures accepted { IfOk result IsAccepted }
+    ensures even { IfOk result (λ r. length r.files ≡ 0) }
+{
+    let Ok(room) = read_room(alloc, ROOM.as_bytes()) else {
+        return Err("room".into());
+    };
+    if room.files.len() != 0 {
+        return Err("files".into());
+    }
+    Ok(room)
+}
+
 /// The lines of a route by the light of these lamps, held against 1 lux and a ratio of 40.
 fn lines(alloc: Global, line: Route, lamps: &[u32]) -> Result<String, Fail>
     requires { IsWithinReach line }
@@ -104,7 +119,7 @@ fn lines(alloc: Global, line: Route, lamps: &[u32]) -> Result<String, Fail>
     if lamps.len() > 16 {
         return Err("lamps".into());
     }
-    let room = read_room(alloc, ROOM.as_bytes()).ok().ok_or("room")?;
+    let room = lit_room(alloc)?;
     let sines = TangentTable::build(alloc).ok().ok_or("memory")?;
     let points = route_points(alloc, &room, &line, lamps)
         .ok()

@@ -6,7 +6,13 @@ use Rattle.lux_io.specs.Files.{bytes_of, Rose, Stood}
 use Rattle.lm63_read.specs.Tables.{IsTableOf}
 use Rattle.lm63_read.specs.Files.{IesFile}
 use Rattle.eulumdat_read.specs.Ldt.{table_of_file}
+use Rattle.std.proofs.lemmas.List.Elements.{All-get_or}
 use Rattle.claim_file.specs.Claims.{claim_of}
+use Rattle.escape_route.specs.Routes.{IsRouteCause, IsRouteIn}
+use Rattle.escape_route.specs.declared.lines.RouteLimits.{RouteLimits}
+use Rattle.escape_route.specs.declared.route.Route.{Route}
+use Rattle.escape_route.specs.declared.route.RouteFault.{RouteFault}
+use Rattle.escape_route.specs.declared.route.RouteFault.TheVariants as route_fault
 use Rattle.limit_verdict.specs.declared.verdict.Verdict.{Verdict}
 use Rattle.limit_verdict.specs.declared.verdict.Verdict.TheVariants.{Met, Missed, Undecided}
 use Rattle.limit_verdict.specs.Verdicts.{verdicts_of, overall}
@@ -25,7 +31,8 @@ use Rattle.scene_system.specs.declared.fault.SceneFault.{SceneFault}
 use Rattle.scene_system.specs.declared.fault.SceneFault.TheVariants as scene_fault
 use Rattle.lux_core.specs.Answers.{IsBytesAnswer, IsFileAnswer, IsAnswer, IsAnswerTo, CanAnswer, CanTellFile, CanTellOf, IsAble, IsFullStatus}
 use Rattle.lux_core.specs.Claims.{IsCheckAnswer, IsClaimAnswer, IsOfClaim, IsSaidOfClaim, CanCheck}
-use Rattle.lux_core.specs.Commands.{question_of, file_name, claim_name, format_of}
+use Rattle.lux_core.specs.Commands.{question_of, file_name, claim_name, marked_lamps, format_of}
+use Rattle.lux_core.specs.Escapes.{CanEscape, IsEscapeAnswer}
 use Rattle.lux_core.specs.LampFiles.{LampFile, WasRead, WereRead, HasUnreadFile, IsUnreadFile, IsRefusedFile, file_at, nothing_read, tables_of}
 use Rattle.lux_core.specs.LightAnswers.{HasNoScene, HasHeavyRow, IsAsked, IsLightAnswer, IsNotServed, IsOfTables, IsSaidByScene, CanLight}
 use Rattle.lux_core.specs.Photometry.{IsFaultOfFile, IsPhotometryAnswer, IsTableOfFile, CanSum}
@@ -137,12 +144,11 @@ read_not_unread : (r : Run) (told : List (List ℕ × List ℕ)) (file : FileUse
 read_not_unread r told file read given text e s was (inl u) = taken_there r file.name read.bytes given text (there r told file.name read.bytes e was.content) s u
 read_not_unread r told file read given text e s was (inr f) = read_not_refused r told file read given text e was f
 
-has_no_unread : (r : Run) (told : List (List ℕ × List ℕ)) (room : Room) (given : Status) (text : List ℕ) → r.files ≡ Some told
-    → Stood r.faults.before r.faults.now → CanLight (Some told) room → HasUnreadFile r room.files given text → ⊥
-has_no_unread r told room given text e s can h =
+has_no_unread : (r : Run) (told : List (List ℕ × List ℕ)) (room : Room) (reads : List LampFile) (given : Status) (text : List ℕ) → r.files ≡ Some told
+    → Stood r.faults.before r.faults.now → length reads ≡ length room.files → WereRead (Some told) room.files reads → HasUnreadFile r room.files given text → ⊥
+has_no_unread r told room reads given text e s all read h =
     let k = length h.before in
-    read_not_unread r told (file_at room.files k) (slice_index_or can.reads k nothing_read) given text e s
-    (can.read.each k (rw (can.all) h.within)) h.unread
+    read_not_unread r told (file_at room.files k) (slice_index_or reads k nothing_read) given text e s (read.each k (rw all h.within)) h.unread
 
 -- lists of one length whose elements are the same, one by one
 same_lists : {A : Type 0} (xs ys : List A) (d : A) → length xs ≡ length ys
@@ -225,7 +231,7 @@ asked_full Claim tables room given text (served, c) = c.status_is
 
 light_full : (asked : LightQuestion) (r : Run) (told : List (List ℕ × List ℕ)) (before : Option (List ℕ)) (room : Room) (given : Status) (text : List ℕ) → r.files ≡ Some told
     → Stood r.faults.before r.faults.now → CanLight (Some told) room → IsLightAnswer asked r before room given text → full asked given
-light_full asked r told before room given text e s can (inl u) = absurd (has_no_unread r told room given text e s can u)
+light_full asked r told before room given text e s can (inl u) = absurd (has_no_unread r told room can.reads given text e s can.all can.read u)
 light_full asked r told before room given text e s can (inr o) = elim o.said [
   | inl a ↦ asked_full asked (tables_of o.reads) room given text a
   | inr none ↦ absurd (served_by r told room o.reads given text e can o.lamp_files.all o.lamp_files.read none)
@@ -249,44 +255,63 @@ claim_full r told room name tables given text e s can (inr o) = by_alternative o
 
 check_full : (r : Run) (told : List (List ℕ × List ℕ)) (before : Option (List ℕ)) (room : Room) (name : List ℕ) (given : Status) (text : List ℕ) → r.files ≡ Some told
     → Stood r.faults.before r.faults.now → CanCheck told room name → IsCheckAnswer r before room name given text → (given ≡ status.Done) ⊎ (given ≡ status.NotShown)
-check_full r told before room name given text e s can (inl u) = absurd (has_no_unread r told room given text e s can.light u)
+check_full r told before room name given text e s can (inl u) = absurd (has_no_unread r told room can.light.reads given text e s can.light.all can.light.read u)
 check_full r told before room name given text e s can (inr (inl o)) = absurd (served_by r told room o.reads given text e can.light o.lamp_files.all o.lamp_files.read o.said)
 check_full r told before room name given text e s can (inr (inr o)) = claim_full r told room name (tables_of o.reads) given text e s can o.said
+
+-- ---- a route that is served
+
+no_route_fault : (room : Room) (route : Route) (marked : List ℕ) (f : RouteFault) → IsRouteIn room route marked → IsRouteCause room route marked f → f ≢ route_fault.Memory → ⊥
+no_route_fault room route marked route_fault.Line served cause known = cause served.line
+no_route_fault room route marked (route_fault.Lamp k) served (line, missing) known =
+    let below = All-get_or (λ i. i < length room.lamps) marked missing.place 0 missing.within served.marked in
+    let is = missing.is in
+    let past = missing.missing in
+    omega (arith, below, is, past)
+no_route_fault room route marked route_fault.Memory served cause known = known refl
+
+escape_full : (route : Route) (limits : RouteLimits) (marked : List ℕ) (r : Run) (told : List (List ℕ × List ℕ)) (before : Option (List ℕ)) (room : Room) (given : Status) (text : List ℕ)
+    → r.files ≡ Some told → Stood r.faults.before r.faults.now → CanEscape route marked (Some told) room → IsEscapeAnswer route limits marked r before room given text
+    → (given ≡ status.Done) ⊎ (given ≡ status.Missed) ⊎ (given ≡ status.Undecided)
+escape_full route limits marked r told before room given text e s can (inl f) = absurd (no_route_fault room route marked f.fault can.served f.cause f.no_want)
+escape_full route limits marked r told before room given text e s can (inr (inl u)) = absurd (has_no_unread r told room can.reads given text e s can.all can.read u.unread)
+escape_full route limits marked r told before room given text e s can (inr (inr o)) = let told = o.said in rw told.status_is (one_of_three told.verdict)
 
 -- ---- whole answers
 
 abbrev full_of_room : RoomQuestion → Status → Type 0
 full_of_room asked given = IsFullStatus (question.File (file.Room asked)) given
 
-said_full : (asked : RoomQuestion) (r : Run) (told : List (List ℕ × List ℕ)) (bytes claim : List ℕ) (room : Room) (given : Status) (text : List ℕ) → r.files ≡ Some told
-    → Stood r.faults.before r.faults.now → IsAbleOf asked told claim room → IsSaidOf asked r bytes claim room given text → full_of_room asked given
-said_full (asks.Light asked) r told bytes claim room given text e s can a = light_full asked r told (Some bytes) room given text e s can a
-said_full asks.Check r told bytes claim room given text e s can a = check_full r told (Some bytes) room claim given text e s can a
-said_full (asks.Sight p q) r told bytes claim room given text e s can (ended, inl a) = a.status_is
-said_full (asks.Sight p q) r told bytes claim room given text e s can (ended, inr a) = a.status_is
+said_full : (asked : RoomQuestion) (r : Run) (told : List (List ℕ × List ℕ)) (bytes : List ℕ) (words : List (List ℕ)) (room : Room) (given : Status) (text : List ℕ) → r.files ≡ Some told
+    → Stood r.faults.before r.faults.now → IsAbleOf asked told words room → IsSaidOf asked r bytes words room given text → full_of_room asked given
+said_full (asks.Light asked) r told bytes words room given text e s can a = light_full asked r told (Some bytes) room given text e s can a
+said_full asks.Check r told bytes words room given text e s can a = check_full r told (Some bytes) room (claim_name words) given text e s can a
+said_full (asks.Escape route limits) r told bytes words room given text e s can a = escape_full route limits (marked_lamps words) r told (Some bytes) room given text e s can a
+said_full (asks.Sight p q) r told bytes words room given text e s can (ended, inl a) = a.status_is
+said_full (asks.Sight p q) r told bytes words room given text e s can (ended, inr a) = a.status_is
 
-room_full : (asked : RoomQuestion) (r : Run) (told : List (List ℕ × List ℕ)) (bytes claim : List ℕ) (room : Room) (given : Status) (text : List ℕ) → r.files ≡ Some told
-    → Stood r.faults.before r.faults.now → room_of bytes ≡ Ok room → IsAbleOf asked told claim room → IsRoomAnswer asked r bytes claim given text → full_of_room asked given
-room_full asked r told bytes claim room given text e s accepted able (inl f) = absurd (ok_or_fault (room_of bytes) room f.fault accepted f.refused)
-room_full asked r told bytes claim room given text e s accepted able (inr o) =
+room_full : (asked : RoomQuestion) (r : Run) (told : List (List ℕ × List ℕ)) (bytes : List ℕ) (words : List (List ℕ)) (room : Room) (given : Status) (text : List ℕ) → r.files ≡ Some told
+    → Stood r.faults.before r.faults.now → room_of bytes ≡ Ok room → IsAbleOf asked told words room → IsRoomAnswer asked r bytes words given text → full_of_room asked given
+room_full asked r told bytes words room given text e s accepted able (inl f) = absurd (ok_or_fault (room_of bytes) room f.fault accepted f.refused)
+room_full asked r told bytes words room given text e s accepted able (inr o) =
     let same : o.room ≡ room = ok_same (room_of bytes) o.room room o.accepted accepted in
-    said_full asked r told bytes claim room given text e s able (subst (λ (x : Room). IsSaidOf asked r bytes claim x given text) same o.said)
+    said_full asked r told bytes words room given text e s able (subst (λ (x : Room). IsSaidOf asked r bytes words x given text) same o.said)
 
-bytes_full : (asked : FileQuestion) (r : Run) (told : List (List ℕ × List ℕ)) (name claim bytes : List ℕ) (given : Status) (text : List ℕ) → r.files ≡ Some told
-    → Stood r.faults.before r.faults.now → IsAble asked told claim bytes → IsBytesAnswer asked r name claim bytes given text → IsFullStatus (question.File asked) given
-bytes_full (file.Room asked) r told name claim bytes given text e s can a = room_full asked r told bytes claim can.room given text e s can.accepted can.able a
-bytes_full (file.Photometry format photometry.Summary) r told name claim bytes given text e s can (ended, inl a) = a.status_is
-bytes_full (file.Photometry format (photometry.Flux lumens)) r told name claim bytes given text e s can (ended, inl a) = a.status_is
-bytes_full (file.Photometry format asked) r told name claim bytes given text e s can (ended, inr a) = absurd (no_fault format bytes a.fault can a.refused)
+bytes_full : (asked : FileQuestion) (r : Run) (told : List (List ℕ × List ℕ)) (name : List ℕ) (words : List (List ℕ)) (bytes : List ℕ) (given : Status) (text : List ℕ) → r.files ≡ Some told
+    → Stood r.faults.before r.faults.now → IsAble asked told words bytes → IsBytesAnswer asked r name words bytes given text → IsFullStatus (question.File asked) given
+bytes_full (file.Room asked) r told name words bytes given text e s can a = room_full asked r told bytes words can.room given text e s can.accepted can.able a
+bytes_full (file.Photometry format photometry.Summary) r told name words bytes given text e s can (ended, inl a) = a.status_is
+bytes_full (file.Photometry format (photometry.Flux lumens)) r told name words bytes given text e s can (ended, inl a) = a.status_is
+bytes_full (file.Photometry format asked) r told name words bytes given text e s can (ended, inr a) = absurd (no_fault format bytes a.fault can a.refused)
 
-file_full : (asked : FileQuestion) (r : Run) (told : List (List ℕ × List ℕ)) (name claim : List ℕ) (given : Status) (text : List ℕ) → r.files ≡ Some told
-    → Stood r.faults.before r.faults.now → CanTellFile asked told name claim → IsFileAnswer asked r name claim given text → IsFullStatus (question.File asked) given
-file_full asked r told name claim given text e s can (inl u) =
+file_full : (asked : FileQuestion) (r : Run) (told : List (List ℕ × List ℕ)) (name : List ℕ) (words : List (List ℕ)) (given : Status) (text : List ℕ) → r.files ≡ Some told
+    → Stood r.faults.before r.faults.now → CanTellFile asked told name words → IsFileAnswer asked r name words given text → IsFullStatus (question.File asked) given
+file_full asked r told name words given text e s can (inl u) =
     absurd (taken_there r name can.bytes given text (record { told = told; files_are = e; found = can.found; few = can.few }) s u)
-file_full asked r told name claim given text e s can (inr o) =
+file_full asked r told name words given text e s can (inr o) =
     let same = same_content r name can.bytes o.bytes (record { told = told; files_are = e; found = can.found; few = can.few }) o.read in
-    bytes_full asked r told name claim can.bytes given text e s can.able
-    (subst (λ (b : List ℕ). IsBytesAnswer asked r name claim b given text) same o.said)
+    bytes_full asked r told name words can.bytes given text e s can.able
+    (subst (λ (b : List ℕ). IsBytesAnswer asked r name words b given text) same o.said)
 
 trial_full : (n : ℕ) (r : Run) (told : List (List ℕ × List ℕ)) (given : Status) (text : List ℕ) → r.files ≡ Some told
     → Stood r.faults.before r.faults.now → CanTry n told → IsTrialAnswer n r given text → given ≡ status.Done
@@ -298,7 +323,7 @@ trial_full n r told given text e s can (inr o) =
 
 answer_full : (asked : Question) (words : List (List ℕ)) (r : Run) (told : List (List ℕ × List ℕ)) (given : Status) (text : List ℕ) → r.files ≡ Some told
     → Stood r.faults.before r.faults.now → CanTellOf asked told words → IsAnswerTo asked words r given text → IsFullStatus asked given
-answer_full (question.File asked) words r told given text e s can a = file_full asked r told (file_name words) (claim_name words) given text e s can a
+answer_full (question.File asked) words r told given text e s can a = file_full asked r told (file_name words) words given text e s can a
 answer_full (question.Trial n) words r told given text e s can a = trial_full n r told given text e s can a
 
 none_some : {T : Type 0} {t : T} → (let o : Option T = None in o) ≡ Some t → ⊥

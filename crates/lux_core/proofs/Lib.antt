@@ -5,3 +5,4 @@ pub mod Digits
 pub mod LampLists
 pub mod Statuses
 pub mod Luminaires
+pub mod Marks

@@ -1,6 +1,8 @@
 -- An answer's status is never that of a text that couldn't be written.
 use Rattle.std.proofs.Common.{ℕ, ◌≡◌, ◌≢◌, ◌⊎◌, inl, inr, List, ◌∙◌, sym}
 use Rattle.std.specs.Prelude.{Option, Some, None}
+use Rattle.escape_route.specs.declared.lines.RouteLimits.{RouteLimits}
+use Rattle.escape_route.specs.declared.route.Route.{Route}
 use Rattle.limit_verdict.specs.Verdicts.{verdicts_of, overall}
 use Rattle.limit_verdict.specs.declared.verdict.Verdict.{Verdict}
 use Rattle.limit_verdict.specs.declared.verdict.Verdict.TheVariants.{Met, Missed, Undecided}
@@ -11,7 +13,8 @@ use Rattle.lux_core.specs.Answers.{IsAnswerTo, IsBytesAnswer, IsFileAnswer}
 use Rattle.lux_core.specs.Claims.{IsCheckAnswer, IsClaimAnswer, IsSaidOfClaim}
 use Rattle.lux_core.specs.LampFiles.{HasUnreadFile, tables_of}
 use Rattle.lux_core.specs.LightAnswers.{IsAsked, IsLightAnswer, IsNotServed}
-use Rattle.lux_core.specs.Commands.{file_name, claim_name}
+use Rattle.lux_core.specs.Commands.{file_name, claim_name, marked_lamps}
+use Rattle.lux_core.specs.Escapes.{IsEscapeAnswer}
 use Rattle.lux_core.specs.Photometry.{IsPhotometryAnswer}
 use Rattle.lux_core.specs.RoomAnswers.{IsRoomAnswer, IsSaidOf}
 use Rattle.lux_core.specs.Runs.{Run}
@@ -96,30 +99,37 @@ check r before room name given text (inl u) = unread r room given text u
 check r before room name given text (inr (inl o)) = not_served (tables_of o.reads) room given text o.said
 check r before room name given text (inr (inr o)) = claim r (tables_of o.reads) room name given text o.said
 
-said : (asked : RoomQuestion) (r : Run) (bytes name : List ℕ) (room : Room) (given : Status) (text : List ℕ) → IsSaidOf asked r bytes name room given text → IsWritten given
-said (asks.Light asked) r bytes name room given text a = light asked r (Some bytes) room given text a
-said asks.Check r bytes name room given text a = check r (Some bytes) room name given text a
-said (asks.Sight p q) r bytes name room given text (ended, inl a) = by_done given a.status_is
-said (asks.Sight p q) r bytes name room given text (ended, inr a) = by_done given a.status_is
+escape : (route : Route) (limits : RouteLimits) (marked : List ℕ) (r : Run) (before : Option (List ℕ)) (room : Room) (given : Status) (text : List ℕ)
+    → IsEscapeAnswer route limits marked r before room given text → IsWritten given
+escape route limits marked r before room given text (inl f) = by_refused given f.status_is
+escape route limits marked r before room given text (inr (inl u)) = unread r room given text u.unread
+escape route limits marked r before room given text (inr (inr o)) = let told = o.said in rw told.status_is (verdict_written told.verdict)
 
-room : (asked : RoomQuestion) (r : Run) (bytes name : List ℕ) (given : Status) (text : List ℕ) → IsRoomAnswer asked r bytes name given text → IsWritten given
-room asked r bytes name given text (inl f) = by_refused given f.status_is
-room asked r bytes name given text (inr o) = said asked r bytes name o.room given text o.said
+said : (asked : RoomQuestion) (r : Run) (bytes : List ℕ) (words : List (List ℕ)) (room : Room) (given : Status) (text : List ℕ) → IsSaidOf asked r bytes words room given text → IsWritten given
+said (asks.Light asked) r bytes words room given text a = light asked r (Some bytes) room given text a
+said asks.Check r bytes words room given text a = check r (Some bytes) room (claim_name words) given text a
+said (asks.Escape route limits) r bytes words room given text a = escape route limits (marked_lamps words) r (Some bytes) room given text a
+said (asks.Sight p q) r bytes words room given text (ended, inl a) = by_done given a.status_is
+said (asks.Sight p q) r bytes words room given text (ended, inr a) = by_done given a.status_is
 
-bytes_answer : (asked : FileQuestion) (r : Run) (name claim bytes : List ℕ) (given : Status) (text : List ℕ) → IsBytesAnswer asked r name claim bytes given text → IsWritten given
-bytes_answer (file.Room asked) r name claim bytes given text a = room asked r bytes claim given text a
-bytes_answer (file.Photometry format photometry.Summary) r name claim bytes given text (ended, inl a) = by_done given a.status_is
-bytes_answer (file.Photometry format (photometry.Flux lumens)) r name claim bytes given text (ended, inl a) = by_done given a.status_is
-bytes_answer (file.Photometry format asked) r name claim bytes given text (ended, inr a) = by_refused given a.status_is
+room : (asked : RoomQuestion) (r : Run) (bytes : List ℕ) (words : List (List ℕ)) (given : Status) (text : List ℕ) → IsRoomAnswer asked r bytes words given text → IsWritten given
+room asked r bytes words given text (inl f) = by_refused given f.status_is
+room asked r bytes words given text (inr o) = said asked r bytes words o.room given text o.said
 
-of_file : (asked : FileQuestion) (r : Run) (name claim : List ℕ) (given : Status) (text : List ℕ) → IsFileAnswer asked r name claim given text → IsWritten given
-of_file asked r name claim given text (inl u) = untaken r name given text u
-of_file asked r name claim given text (inr o) = bytes_answer asked r name claim o.bytes given text o.said
+bytes_answer : (asked : FileQuestion) (r : Run) (name : List ℕ) (words : List (List ℕ)) (bytes : List ℕ) (given : Status) (text : List ℕ) → IsBytesAnswer asked r name words bytes given text → IsWritten given
+bytes_answer (file.Room asked) r name words bytes given text a = room asked r bytes words given text a
+bytes_answer (file.Photometry format photometry.Summary) r name words bytes given text (ended, inl a) = by_done given a.status_is
+bytes_answer (file.Photometry format (photometry.Flux lumens)) r name words bytes given text (ended, inl a) = by_done given a.status_is
+bytes_answer (file.Photometry format asked) r name words bytes given text (ended, inr a) = by_refused given a.status_is
+
+of_file : (asked : FileQuestion) (r : Run) (name : List ℕ) (words : List (List ℕ)) (given : Status) (text : List ℕ) → IsFileAnswer asked r name words given text → IsWritten given
+of_file asked r name words given text (inl u) = untaken r name given text u
+of_file asked r name words given text (inr o) = bytes_answer asked r name words o.bytes given text o.said
 
 trial : (n : ℕ) (r : Run) (given : Status) (text : List ℕ) → IsTrialAnswer n r given text → IsWritten given
 trial n r given text (inl f) = by_refused given f.status_is
 trial n r given text (inr o) = light (Report (Summary n)) r None o.room given text o.said
 
 pub answer_written : (asked : Question) (words : List (List ℕ)) (r : Run) (given : Status) (text : List ℕ) → IsAnswerTo asked words r given text → given ≢ status.WriteFault
-answer_written (question.File asked) words r given text a = of_file asked r (file_name words) (claim_name words) given text a
+answer_written (question.File asked) words r given text a = of_file asked r (file_name words) words given text a
 answer_written (question.Trial n) words r given text a = trial n r given text a

@@ -6,19 +6,21 @@ use Rattle.decimal_text.specs.Decimals.{thousandths}
 use Rattle.decimal_text.specs.Lines.{line}
 use Rattle.room_layout.specs.Place.{point_of}
 use Rattle.scene_system.specs.declared.fault.SceneFault.TheVariants as scene_fault
+use Rattle.escape_route.specs.declared.route.RouteFault.TheVariants as route_fault
 use Rattle.lux_core.specs.Answers.{IsAnswer}
+use Rattle.lux_core.specs.Escapes.{route_fault_text}
 use Rattle.lux_core.specs.LightAnswers.{scene_fault_text}
 use Rattle.lux_core.specs.Spellings.{limits_status}
 use Rattle.lux_core.specs.Runs.{Run, run}
 use Rattle.lux_core.specs.Codes.{status_code}
-use Rattle.lux_core.specs.Commands.{names_file, number_after, coordinate, question_of, file_name, claim_name, names_lm63, usage_line}
+use Rattle.lux_core.specs.Commands.{names_file, number_after, coordinate, are_rising, question_of, file_name, claim_name, marked_lamps, names_lm63, usage_line}
 use Rattle.lux_core.specs.declared.status.Status.TheVariants as status
 use Rattle.lux_core.specs.declared.words.FileQuestion.TheVariants as file
 use Rattle.lux_core.specs.declared.words.LightQuestion.TheVariants.{Report, Claim}
 use Rattle.lux_core.specs.declared.words.Question.TheVariants as question
 use Rattle.lux_core.specs.declared.words.Format.TheVariants.{Lm63, Eulumdat}
 use Rattle.lux_core.specs.declared.words.PhotometryQuestion.TheVariants as photometry
-use Rattle.lux_core.specs.declared.words.RoomQuestion.TheVariants.{Light, Check, Sight}
+use Rattle.lux_core.specs.declared.words.RoomQuestion.TheVariants.{Light, Check, Sight, Escape}
 use Rattle.lux_core.specs.declared.words.Spelling.TheVariants.{Lines, Records}
 
 -- ---- numbers
@@ -132,6 +134,34 @@ flux_of_no_set = refl
 flux_without_lumens : question_of (codes "flux" ∷ codes "a.ldt" ∷ codes "1" ∷ []) ≡ None
 flux_without_lumens = refl
 
+abbrev escape_words : (limit lamp : List ℕ) → List (List ℕ)
+escape_words limit lamp =
+    codes "escape" ∷ codes "room.toml" ∷ codes "2000" ∷ codes "3000" ∷ codes "4000" ∷ codes "3000" ∷ limit ∷ codes "40" ∷ codes "0" ∷ lamp ∷ []
+
+asks_for_a_route : question_of (escape_words (codes "1000000000") (codes "255"))
+    ≡ Some (question.File (file.Room (Escape (record { x0 = 2000; y0 = 3000; x1 = 4000; y1 = 3000 }) (record { least = 1000000000; ratio = 40 }))))
+unfolding number_after are_rising
+asks_for_a_route = refl
+
+marks_two_lamps : marked_lamps (escape_words (codes "0") (codes "255")) ≡ 0 ∷ 255 ∷ []
+unfolding number_after
+marks_two_lamps = refl
+
+past_a_million_lux : question_of (escape_words (codes "1000000001") (codes "255")) ≡ None
+unfolding number_after are_rising
+past_a_million_lux = refl
+
+past_the_last_lamp : question_of (escape_words (codes "1000") (codes "256")) ≡ None
+unfolding number_after are_rising
+past_the_last_lamp = refl
+
+lamp_named_twice : question_of (escape_words (codes "1000") (codes "0")) ≡ None
+unfolding number_after are_rising
+lamp_named_twice = refl
+
+route_without_lamps : question_of (codes "escape" ∷ codes "room.toml" ∷ codes "0" ∷ codes "0" ∷ codes "0" ∷ codes "0" ∷ codes "0" ∷ codes "1" ∷ []) ≡ None
+route_without_lamps = refl
+
 short_name : names_lm63 (codes "ies") ≡ false
 short_name = refl
 
@@ -194,6 +224,13 @@ bright_lamps = refl
 
 covered_task : line (codes "refused scene " ++ scene_fault_text scene_fault.NoTaskPoint) ≡ codes "refused scene 3 NoTaskPoint\n"
 covered_task = refl
+
+slanting_line : line (codes "refused escape " ++ route_fault_text route_fault.Line) ≡ codes "refused escape 1 Line\n"
+slanting_line = refl
+
+missing_lamp : line (codes "refused escape " ++ route_fault_text (route_fault.Lamp 255)) ≡ codes "refused escape 2 Lamp 255\n"
+unfolding digits
+missing_lamp = refl
 
 -- as the record `HasHeavyRow` spells it
 heavy_row : line (codes "refused rows 1 RowSum " ++ decimal 0 ++ codes " " ++ thousandths 1140) ≡ codes "refused rows 1 RowSum 0 1.140\n"

@@ -1,9 +1,10 @@
 -- Which words are a command. Words are compared byte for byte, and nothing else is an option.
-use Rattle.std.specs.Prelude.{ℕ, Bool, map, drop, false, not, ◌+◌, ◌-◌, ◌*◌, ◌&&◌, ◌||◌, ◌==◌, nat_le, List, [], ◌∷◌, length, codes, slice_index_or, Option, Some, None, if◌then◌else◌}
+use Rattle.std.specs.Prelude.{ℕ, Bool, map, drop, take, true, false, not, ◌+◌, ◌-◌, ◌*◌, ◌&&◌, ◌||◌, ◌==◌, nat_le, List, [], ◌∷◌, length, codes, slice_index_or, Option, Some, None, unwrap_or, if◌then◌else◌}
 use Rattle.std.specs.List.{list_all}
 use Rattle.std.specs.Option.{option_map}
 use Rattle.std.specs.Char.{to_ascii_lowercase}
 use Rattle.std.specs.Str.{bytes_eq}
+use Rattle.escape_route.specs.declared.route.Route.{Route}
 use Rattle.room_layout.specs.Place.{point_of, place_of_size}
 use Rattle.room_layout.specs.declared.geometry.Point.{Point}
 use Rattle.lux_core.specs.declared.words.Question.{Question}
@@ -14,7 +15,7 @@ use Rattle.lux_core.specs.declared.words.FileQuestion.TheVariants as file
 use Rattle.lux_core.specs.declared.words.LightQuestion.{LightQuestion}
 use Rattle.lux_core.specs.declared.words.LightQuestion.TheVariants.{Report, Claim}
 use Rattle.lux_core.specs.declared.words.PhotometryQuestion.TheVariants as photometry
-use Rattle.lux_core.specs.declared.words.RoomQuestion.TheVariants.{Light, Check, Sight}
+use Rattle.lux_core.specs.declared.words.RoomQuestion.TheVariants.{Light, Check, Sight, Escape}
 use Rattle.lux_core.specs.declared.words.Spelling.TheVariants.{Lines, Records}
 
 -- ---- the names of files
@@ -59,6 +60,13 @@ lamp_set word = number_within 1 20 word
 abbrev pub lumens : List ℕ → Option ℕ
 lumens word = number_within 0 1000000 word
 
+-- a light in thousandths of a lux, and a ratio, that are asked of a route
+abbrev pub millilux : List ℕ → Option ℕ
+millilux word = number_within 0 1000000000 word
+
+abbrev pub times : List ℕ → Option ℕ
+times word = number_within 1 1000 word
+
 -- the number of a made room
 abbrev pub room_number : List ℕ → Option ℕ
 room_number word = number_within 1 40 word
@@ -81,6 +89,37 @@ abbrev pub sight_between : Option Point → Option Point → Option Question
 sight_between (Some p) (Some q) = Some (question.File (file.Room (Sight p q)))
 sight_between (Some p) None = None
 sight_between None q = None
+
+-- the route between the places of two pairs of coordinates
+abbrev pub route_at : (x0 y0 x1 y1 : Option ℕ) → Option Route
+route_at (Some x0) (Some y0) (Some x1) (Some y1) = Some (record { x0 = x0; y0 = y0; x1 = x1; y1 = y1 })
+route_at (Some x0) (Some y0) (Some x1) None = None
+route_at (Some x0) (Some y0) None y1 = None
+route_at (Some x0) None x1 y1 = None
+route_at None y0 x1 y1 = None
+
+-- the words are numbers of lamps, 0 to 255, that rise from one to the next; the first of them is at least so much
+unfoldable pub are_rising : ℕ → List (List ℕ) → Bool
+are_rising least [] = true
+are_rising least (word ∷ more) = elim (number_within least 255 word) [ Some k ↦ are_rising (k + 1) more | None ↦ false ]
+
+-- 1 to 16 lamps are marked by the words after the eighth
+abbrev pub marks_lamps : List (List ℕ) → Bool
+marks_lamps words = nat_le 9 (length words) && nat_le (length words) 24 && are_rising 0 (drop 8 words)
+
+abbrev pub escape_asked : Option Route → (least ratio : Option ℕ) → Option Question
+escape_asked (Some route) (Some least) (Some ratio) = Some (question.File (file.Room (Escape route (record { least = least; ratio = ratio }))))
+escape_asked (Some route) (Some least) None = None
+escape_asked (Some route) None ratio = None
+escape_asked None least ratio = None
+
+-- what `escape ROOM X Y X Y MILLILUX RATIO LAMP ..` asks
+abbrev pub escape_of : List (List ℕ) → Option Question
+escape_of words =
+    if marks_lamps words
+    then escape_asked (route_at (coordinate_at words 2) (coordinate_at words 3) (coordinate_at words 4) (coordinate_at words 5)) (millilux (slice_index_or words 6 []))
+    (times (slice_index_or words 7 []))
+    else None
 
 -- a name that ends in `.ies`, in any mixture of capitals: such a file is read as LM-63, every other one as EULUMDAT
 abbrev pub names_lm63 : List ℕ → Bool
@@ -141,10 +180,11 @@ sight_of words =
 abbrev pub asked_of : List (List ℕ) → Option Question
 asked_of words =
     if is_command (codes "read") words then summary_of words
+    else (if is_command (codes "escape") words then escape_of words
     else (if length words == 2 then light_of words
     else (if length words == 3 then check_of words
     else (if length words == 4 && is_command (codes "flux") words then flux_of words
-    else (if length words == 8 && is_command (codes "sight") words then sight_of words else None))))
+    else (if length words == 8 && is_command (codes "sight") words then sight_of words else None)))))
 
 -- `trial N`
 abbrev pub is_trial : List (List ℕ) → Bool
@@ -165,5 +205,13 @@ file_name words = slice_index_or words 1 []
 abbrev pub claim_name : List (List ℕ) → List ℕ
 claim_name words = slice_index_or words 2 []
 
+-- the number of a lamp that a word says, and 0 where it says none
+abbrev pub lamp_number : List ℕ → ℕ
+lamp_number word = unwrap_or (number_within 0 255 word) 0
+
+-- the numbers of the marked lamps, of which there are 16 at most
+abbrev pub marked_lamps : List (List ℕ) → List ℕ
+marked_lamps words = map lamp_number (take 16 (drop 8 words))
+
 abbrev pub usage_line : List ℕ
-usage_line = codes "usage: lux report ROOM | grid ROOM | read FILE [SET] | sight ROOM X Y Z X Y Z | certify ROOM | check ROOM CLAIM | trial N | flux FILE SET LUMENS\n"
+usage_line = codes "usage: lux report ROOM | grid ROOM | read FILE [SET] | sight ROOM X Y Z X Y Z | certify ROOM | check ROOM CLAIM | trial N | flux FILE SET LUMENS | escape ROOM X Y X Y MILLILUX RATIO LAMP ..\n"

@@ -7,6 +7,7 @@ pub mod LampTables
 pub mod Spellings
 pub mod LightAnswers
 pub mod Claims
+pub mod Escapes
 pub mod RoomAnswers
 pub mod Runs
 pub mod Codes

@@ -1,5 +1,6 @@
 -- The ranges of what is asked.
 use Rattle.std.specs.Prelude.{ℕ, ◌≤◌}
+use Rattle.escape_route.specs.Routes.{IsWithinReach as IsRouteWithinReach}
 use Rattle.sight_line.specs.Reach.{IsInReach}
 use Rattle.lux_core.specs.declared.words.FileQuestion.{FileQuestion}
 use Rattle.lux_core.specs.declared.words.FileQuestion.TheVariants as file
@@ -10,13 +11,14 @@ use Rattle.lux_core.specs.declared.words.Format.TheVariants.{Lm63, Eulumdat}
 use Rattle.lux_core.specs.declared.words.PhotometryQuestion.{PhotometryQuestion}
 use Rattle.lux_core.specs.declared.words.PhotometryQuestion.TheVariants.{Summary, Flux}
 use Rattle.lux_core.specs.declared.words.RoomQuestion.{RoomQuestion}
-use Rattle.lux_core.specs.declared.words.RoomQuestion.TheVariants.{Light, Check, Sight}
+use Rattle.lux_core.specs.declared.words.RoomQuestion.TheVariants.{Light, Check, Sight, Escape}
 
--- points within 100 m of the corner of the room
+-- points, and ends of a route, within 100 m of the corner of the room
 abbrev pub IsWithinReach : RoomQuestion → Type 0
 IsWithinReach (Light asked) = Unit {0}
 IsWithinReach Check = Unit {0}
 IsWithinReach (Sight p q) = IsInReach p × IsInReach q
+IsWithinReach (Escape route limits) = IsRouteWithinReach route
 
 -- the number of a lamp set
 abbrev pub IsLampSet : ℕ → Type 0

@@ -9,12 +9,14 @@ use Rattle.room_layout.specs.declared.fault.RoomFault.TheVariants as room_fault
 use Rattle.room_layout.specs.declared.room.Room.{Room}
 use Rattle.sight_line.specs.Sight.{IsFirstMet, NoneMet}
 use Rattle.lux_core.specs.Claims.{IsCheckAnswer, CanCheck}
+use Rattle.lux_core.specs.Commands.{claim_name, marked_lamps}
+use Rattle.lux_core.specs.Escapes.{IsEscapeAnswer, CanEscape}
 use Rattle.lux_core.specs.LightAnswers.{IsLightAnswer, CanLight}
 use Rattle.lux_core.specs.Runs.{Run, EndedWith}
 use Rattle.lux_core.specs.declared.status.Status.{Status}
 use Rattle.lux_core.specs.declared.status.Status.TheVariants as status
 use Rattle.lux_core.specs.declared.words.RoomQuestion.{RoomQuestion}
-use Rattle.lux_core.specs.declared.words.RoomQuestion.TheVariants.{Light, Check, Sight}
+use Rattle.lux_core.specs.declared.words.RoomQuestion.TheVariants.{Light, Check, Sight, Escape}
 
 -- ---- whether two places of an accepted room see each other
 
@@ -36,18 +38,19 @@ IsSightAnswer p q room given text = IsClear room p q given text ⊎ IsBlocked ro
 
 -- ---- what is answered to a question on an accepted room, whose file the bytes are; sight reads no other file
 
-abbrev pub IsSaidOf : RoomQuestion → Run → (bytes claim : List ℕ) → Room → Status → List ℕ → Type 0
-IsSaidOf (Light asked) r bytes claim room given text = IsLightAnswer asked r (Some bytes) room given text
-IsSaidOf Check r bytes claim room given text = IsCheckAnswer r (Some bytes) room claim given text
-IsSaidOf (Sight p q) r bytes claim room given text = EndedWith r (Some bytes) × IsSightAnswer (place_of p) (place_of q) room given text
+abbrev pub IsSaidOf : RoomQuestion → Run → (bytes : List ℕ) → (words : List (List ℕ)) → Room → Status → List ℕ → Type 0
+IsSaidOf (Light asked) r bytes words room given text = IsLightAnswer asked r (Some bytes) room given text
+IsSaidOf Check r bytes words room given text = IsCheckAnswer r (Some bytes) room (claim_name words) given text
+IsSaidOf (Escape route limits) r bytes words room given text = IsEscapeAnswer route limits (marked_lamps words) r (Some bytes) room given text
+IsSaidOf (Sight p q) r bytes words room given text = EndedWith r (Some bytes) × IsSightAnswer (place_of p) (place_of q) room given text
 
--- ---- what the bytes of a room file give; `claim` is the name of the file that `check` looks at
+-- ---- what the bytes of a room file give; `words` are those of the command
 
 -- the layout is accepted, and this is said of its room
-pub record IsOfRoom (asked : RoomQuestion) (r : Run) (bytes claim : List ℕ) (given : Status) (text : List ℕ) : Type 0 where
+pub record IsOfRoom (asked : RoomQuestion) (r : Run) (bytes : List ℕ) (words : List (List ℕ)) (given : Status) (text : List ℕ) : Type 0 where
   pub room : Room
   pub accepted : room_of bytes ≡ Ok room
-  pub said : IsSaidOf asked r bytes claim room given text
+  pub said : IsSaidOf asked r bytes words room given text
 
 -- the layout is refused
 pub record IsRefusedLayout (r : Run) (last : Option (List ℕ)) (bytes : List ℕ) (given : Status) (text : List ℕ) : Type 0 where
@@ -58,19 +61,21 @@ pub record IsRefusedLayout (r : Run) (last : Option (List ℕ)) (bytes : List �
   pub no_want : fault ≢ room_fault.Memory
   pub text_is : text ≡ line (codes "refused room " ++ fault_text fault)
 
-abbrev pub IsRoomAnswer : RoomQuestion → Run → (bytes claim : List ℕ) → Status → List ℕ → Type 0
-IsRoomAnswer asked r bytes claim given text = IsRefusedLayout r (Some bytes) bytes given text ⊎ IsOfRoom asked r bytes claim given text
+abbrev pub IsRoomAnswer : RoomQuestion → Run → (bytes : List ℕ) → (words : List (List ℕ)) → Status → List ℕ → Type 0
+IsRoomAnswer asked r bytes words given text = IsRefusedLayout r (Some bytes) bytes given text ⊎ IsOfRoom asked r bytes words given text
 
 -- ---- where it has to be told
 
--- a room that can be lit by the files that the shelf tells, and for `check` a claim; sight in every room
-abbrev pub IsAbleOf : RoomQuestion → List (List ℕ × List ℕ) → (claim : List ℕ) → Room → Type 0
-IsAbleOf (Light asked) told claim room = CanLight (Some told) room
-IsAbleOf Check told claim room = CanCheck told room claim
-IsAbleOf (Sight p q) told claim room = Unit {0}
+-- a room that can be lit by the files that the shelf tells, and for `check` a claim; a route through the room, and files that can be read;
+-- sight in every room
+abbrev pub IsAbleOf : RoomQuestion → List (List ℕ × List ℕ) → (words : List (List ℕ)) → Room → Type 0
+IsAbleOf (Light asked) told words room = CanLight (Some told) room
+IsAbleOf Check told words room = CanCheck told room (claim_name words)
+IsAbleOf (Escape route limits) told words room = CanEscape route (marked_lamps words) (Some told) room
+IsAbleOf (Sight p q) told words room = Unit {0}
 
 -- the bytes are a room of which it can be told
-pub record CanTell (asked : RoomQuestion) (told : List (List ℕ × List ℕ)) (bytes claim : List ℕ) : Type 0 where
+pub record CanTell (asked : RoomQuestion) (told : List (List ℕ × List ℕ)) (bytes : List ℕ) (words : List (List ℕ)) : Type 0 where
   pub room : Room
   pub accepted : room_of bytes ≡ Ok room
-  pub able : IsAbleOf asked told claim room
+  pub able : IsAbleOf asked told words room

@@ -1,5 +1,5 @@
 //! The answer to what is asked of a file: the file is taken from the shelf, and its bytes answer.
-ghost use Rattle.std.specs.Prelude.{◌≡◌, ◌≤◌, length, IfOk};
+ghost use Rattle.std.specs.Prelude.{◌≡◌, ◌≤◌, length, map, string_bytes, IfOk};
 ghost use Rattle.lux_core.specs.Answers.{IsBytesAnswer, IsFileAnswer};
 ghost use Rattle.lux_core.specs.Questions.{IsFileQuestion};
 ghost use Rattle.lux_core.specs.Runs.{run};
@@ -21,7 +21,7 @@ fn reply_to_bytes<R: Threads + Sync, S: Shelf, G: Gate + Sync>(
     alloc: Global,
     asked: FileQuestion,
     name: &str,
-    claim: &str,
+    words: &[String],
     bytes: &[u8],
     shelf: &mut S,
     gate: &G,
@@ -32,11 +32,11 @@ fn reply_to_bytes<R: Threads + Sync, S: Shelf, G: Gate + Sync>(
     ensures files { S.files shelf.new ≡ S.files shelf.old }
     ensures answered { IfOk result (λ r. IsBytesAnswer asked
         (run (S.files shelf.old) (S.absences shelf.old) (S.absences shelf.new)
-        (S.faults shelf.old) (S.faults shelf.new) (S.taken shelf.new)) name.now claim.now bytes.now r.status r.text.items) }
+        (S.faults shelf.old) (S.faults shelf.new) (S.taken shelf.new)) name.now (map string_bytes words.now) bytes.now r.status r.text.items) }
 {
     match asked {
         FileQuestion::Room(asked) => {
-            let reply = reply_to_room(rt, alloc, asked, bytes, claim, shelf, gate)?;
+            let reply = reply_to_room(rt, alloc, asked, bytes, words, shelf, gate)?;
             Ok(reply)
         }
         FileQuestion::Photometry(format, asked) => {
@@ -46,14 +46,13 @@ fn reply_to_bytes<R: Threads + Sync, S: Shelf, G: Gate + Sync>(
     }
 }
 
-/// The answer to what is asked of the file of this name, made whole before anything is written. `claim` is the name of the file that
-/// `check` looks at.
+/// The answer to what is asked of the file of this name, made whole before anything is written. `words` are those of the command.
 pub fn reply_to_file<R: Threads + Sync, S: Shelf, G: Gate + Sync>(
     rt: &R,
     alloc: Global,
     asked: FileQuestion,
     name: &str,
-    claim: &str,
+    words: &[String],
     shelf: &mut S,
     gate: &G,
 ) -> Result<Reply, Memory>
@@ -61,12 +60,12 @@ pub fn reply_to_file<R: Threads + Sync, S: Shelf, G: Gate + Sync>(
     ensures files { S.files shelf.new ≡ S.files shelf.old }
     ensures answered { IfOk result (λ r. IsFileAnswer asked
         (run (S.files shelf.old) (S.absences shelf.old) (S.absences shelf.new)
-        (S.faults shelf.old) (S.faults shelf.new) (S.taken shelf.new)) name.now claim.now r.status r.text.items) }
+        (S.faults shelf.old) (S.faults shelf.new) (S.taken shelf.new)) name.now (map string_bytes words.now) r.status r.text.items) }
 {
     match take_file(alloc, shelf, name, LONGEST_FILE) {
         Ok(bytes) => {
             let read = bytes.as_slice();
-            let reply = reply_to_bytes(rt, alloc, asked, name, claim, read, shelf, gate)?;
+            let reply = reply_to_bytes(rt, alloc, asked, name, words, read, shelf, gate)?;
             Ok(reply)
         }
         Err(fault) => {

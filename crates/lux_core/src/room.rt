@@ -1,5 +1,5 @@
-//! What is asked of a room: its light, whether it shows a claim, or whether two of its points see each other.
-ghost use Rattle.std.specs.Prelude.{◌≡◌, ◌++◌, codes, IfOk, length, List, ℕ};
+//! What is asked of a room: its light, whether it shows a claim, the light along a route, or whether two of its points see each other.
+ghost use Rattle.std.specs.Prelude.{◌≡◌, ◌++◌, codes, IfOk, length, List, map, string_bytes, ℕ};
 ghost use Rattle.decimal_text.specs.Lines.{line};
 ghost use Rattle.room_layout.specs.Accepted.{IsAccepted};
 ghost use Rattle.room_layout.specs.FaultText.{fault_text};
@@ -10,10 +10,11 @@ ghost use Rattle.lux_core.specs.RoomAnswers.{IsRoomAnswer, IsSaidOf, IsSightAnsw
 ghost use Rattle.lux_core.specs.Runs.{run};
 
 use crate::claim::reply_of_check;
+use crate::escape::reply_of_escape;
 use crate::light::reply_of_light;
 use crate::reply::Reply;
 use crate::status::Status;
-use crate::words::RoomQuestion;
+use crate::words::{RoomQuestion, claim_name, marked_lamps};
 use fork_rows::Gate;
 use fx_base::Memory;
 use lux_io::Shelf;
@@ -51,7 +52,7 @@ fn reply_of_room<R: Threads + Sync, S: Shelf, G: Gate + Sync>(
     alloc: Global,
     asked: RoomQuestion,
     room: &Room,
-    claim: &str,
+    words: &[String],
     shelf: &mut S,
     gate: &G,
 ) -> Result<Reply, Memory>
@@ -60,7 +61,7 @@ fn reply_of_room<R: Threads + Sync, S: Shelf, G: Gate + Sync>(
     ensures files { S.files shelf.new ≡ S.files shelf.old }
     ensures answered { IfOk result (λ r. (bytes : List ℕ) → S.taken shelf.old ≡ length bytes → IsSaidOf asked
         (run (S.files shelf.old) (S.absences shelf.old) (S.absences shelf.new)
-        (S.faults shelf.old) (S.faults shelf.new) (S.taken shelf.new)) bytes claim.now room.now r.status r.text.items) }
+        (S.faults shelf.old) (S.faults shelf.new) (S.taken shelf.new)) bytes (map string_bytes words.now) room.now r.status r.text.items) }
 {
     match asked {
         RoomQuestion::Light(asked) => {
@@ -68,7 +69,13 @@ fn reply_of_room<R: Threads + Sync, S: Shelf, G: Gate + Sync>(
             Ok(reply)
         }
         RoomQuestion::Check => {
-            let reply = reply_of_check(rt, alloc, room, claim, shelf, gate)?;
+            let reply = reply_of_check(rt, alloc, room, claim_name(words), shelf, gate)?;
+            Ok(reply)
+        }
+        RoomQuestion::Escape(route, limits) => {
+            let marked = marked_lamps(alloc, words)?;
+            let lamps = marked.as_slice();
+            let reply = reply_of_escape(alloc, room, &route, &limits, lamps, shelf)?;
             Ok(reply)
         }
         RoomQuestion::Sight(from, to) => {
@@ -78,14 +85,13 @@ fn reply_of_room<R: Threads + Sync, S: Shelf, G: Gate + Sync>(
     }
 }
 
-/// The answer to the bytes of a room file, which were the last ones taken from the shelf. `claim` is the name of the file that `check`
-/// looks at.
+/// The answer to the bytes of a room file, which were the last ones taken from the shelf. `words` are those of the command.
 pub fn reply_to_room<R: Threads + Sync, S: Shelf, G: Gate + Sync>(
     rt: &R,
     alloc: Global,
     asked: RoomQuestion,
     bytes: &[u8],
-    claim: &str,
+    words: &[String],
     shelf: &mut S,
     gate: &G,
 ) -> Result<Reply, Memory>
@@ -94,11 +100,11 @@ pub fn reply_to_room<R: Threads + Sync, S: Shelf, G: Gate + Sync>(
     ensures files { S.files shelf.new ≡ S.files shelf.old }
     ensures answered { IfOk result (λ r. IsRoomAnswer asked
         (run (S.files shelf.old) (S.absences shelf.old) (S.absences shelf.new)
-        (S.faults shelf.old) (S.faults shelf.new) (S.taken shelf.new)) bytes.now claim.now r.status r.text.items) }
+        (S.faults shelf.old) (S.faults shelf.new) (S.taken shelf.new)) bytes.now (map string_bytes words.now) r.status r.text.items) }
 {
     match read_room(alloc, bytes) {
         Ok(room) => {
-            let reply = reply_of_room(rt, alloc, asked, &room, claim, shelf, gate)?;
+            let reply = reply_of_room(rt, alloc, asked, &room, words, shelf, gate)?;
             Ok(reply)
         }
         Err(RoomFault::Memory) => Err(Memory),

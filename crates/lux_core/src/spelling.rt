@@ -13,8 +13,8 @@ use report_form::{Report, grid_text, overall_text, report_text};
 use room_layout::Room;
 use std::alloc::Global;
 
-/// The status of a report by what its limits come to.
-fn status_of(verdict: Verdict) -> Status
+/// The status of what limits come to.
+pub fn status_of(verdict: Verdict) -> Status
     ensures { result ≡ verdict_status verdict }
 {
     match verdict {

@@ -17,9 +17,9 @@ pub enum Status {
     WriteFault,
     /// There wasn't memory enough, and nothing was written.
     Memory,
-    /// The report was written whole, and a limit is missed.
+    /// The lines of a report or a route were written whole, and a limit is missed.
     Missed,
-    /// The report was written whole, no limit is missed, and one is undecided.
+    /// The lines of a report or a route were written whole, no limit is missed, and one is undecided.
     Undecided,
     /// A claim isn't shown by the room, and one line names the row.
     NotShown,

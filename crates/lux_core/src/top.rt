@@ -10,7 +10,7 @@ use crate::file::reply_to_file;
 use crate::reply::Reply;
 use crate::status::Status;
 use crate::trial::reply_to_trial;
-use crate::words::{Question, USAGE, claim_name, file_name, question_of};
+use crate::words::{Question, USAGE, file_name, question_of};
 use fork_rows::Gate;
 use fx_base::Memory;
 use lux_io::{Shelf, Sink, put_all};
@@ -49,8 +49,7 @@ fn reply_to<R: Threads + Sync, S: Shelf, G: Gate + Sync>(
     match asked {
         Question::File(asked) => {
             let name = file_name(words);
-            let claim = claim_name(words);
-            let reply = reply_to_file(rt, alloc, asked, name, claim, shelf, gate)?;
+            let reply = reply_to_file(rt, alloc, asked, name, words, shelf, gate)?;
             Ok(reply)
         }
         Question::Trial(number) => {
@@ -64,8 +63,9 @@ fn reply_to<R: Threads + Sync, S: Shelf, G: Gate + Sync>(
 /// at its task points, the average and the uniformity, and whether each limit is met; `grid ROOM` writes the points as comma-separated
 /// values. `certify ROOM` writes bounds of the light of its patches as a claim, and `check ROOM CLAIM` checks such a claim without
 /// solving. `sight ROOM X Y Z X Y Z` writes whether a box of the room stands between two points, in mm, and which is the first;
-/// `read FILE` and `read FILE SET` sum up a photometric file; `trial N` sums up the report of a made room. `words` are those after the
-/// program's name.
+/// `escape ROOM X Y X Y MILLILUX RATIO LAMP ..` writes the least and the greatest direct light of some lamps along a line on the floor,
+/// and their ratio. `read FILE` and `read FILE SET` sum up a photometric file; `trial N` sums up the report of a made room. `words` are
+/// those after the program's name.
 ///
 /// The text is made whole before its first byte is written, and what it says is proved: see the definitions `IsAnswer` and
 /// `IsRight`.

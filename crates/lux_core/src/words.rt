@@ -1,13 +1,17 @@
 //! The words of the command line.
-ghost use Rattle.std.specs.Prelude.{◌≡◌, ◌*◌, ◌-◌, ◌<◌, ◌≤◌, drop, min, map, string_bytes, length, slice_index_or, [], IfSome, IsTrue, pos};
+ghost use Rattle.std.specs.Prelude.{◌≡◌, ◌*◌, ◌-◌, ◌<◌, ◌≤◌, drop, min, map, string_bytes, length, slice_index_or, [], IfOk, IfSome, IsTrue, pos};
 ghost use Rattle.std.specs.List.{list_all};
 ghost use Rattle.std.specs.Option.{option_map};
 ghost use Rattle.room_layout.specs.Place.{place_of_size, point_of};
 ghost use Rattle.sight_line.specs.Reach.{IsInReach};
-ghost use Rattle.lux_core.specs.Commands.{asked_of, check_of, chosen_set, claim_name, coordinate, file_name, flux_of, format_of, is_digit, is_number, is_plain, is_trial, light_of, names_a_file, names_file, names_lm63, number_after, number_within, point_at, question_of, sight_of, summary_of, trial_of};
+ghost use Rattle.escape_route.specs.Routes.{IsWithinReach as IsRouteWithinReach};
+ghost use Rattle.lux_core.specs.Commands.{asked_of, are_rising, check_of, chosen_set, claim_name, coordinate, escape_of, file_name, flux_of, format_of, is_digit, is_number, is_plain, is_trial, lamp_number, light_of, marked_lamps, marks_lamps, names_a_file, names_file, names_lm63, number_after, number_within, point_at, question_of, route_at, sight_of, summary_of, trial_of};
 ghost use Rattle.lux_core.specs.Questions.{IsFormat, IsInRange, IsLampSet};
 
+use escape_route::{Route, RouteLimits};
+use fx_base::Memory;
 use room_layout::Point;
+use std::alloc::Global;
 
 const LONGEST_NAME: usize = 4096;
 
@@ -23,8 +27,20 @@ const LAST_ROOM: u32 = 40;
 /// The greatest number of lumens that a flux is held against.
 const MOST_LUMENS: u32 = 1_000_000;
 
+/// The greatest number of a lamp.
+const LAST_LAMP: u32 = 255;
+
+/// The most lamps that are marked.
+const MOST_LAMPS: usize = 16;
+
+/// The greatest light that is asked of a route, in thousandths of a lux.
+const MOST_MILLILUX: u32 = 1_000_000_000;
+
+/// The greatest ratio that is asked of a route.
+const MOST_RATIO: u32 = 1_000;
+
 /// Above every number that a word may say.
-const TOO_LARGE: u32 = 100_000_000;
+const TOO_LARGE: u64 = 10_000_000_000;
 
 /// In which form a report is written.
 #[derive(Clone, Copy, Debug, PartialEq, Eq)]
@@ -55,6 +71,8 @@ pub enum RoomQuestion {
     Check,
     /// Whether two points, in half mm, see each other.
     Sight(Point, Point),
+    /// Whether the light along a route is within these limits.
+    Escape(Route, RouteLimits),
 }
 
 /// As what a photometric file is read.
@@ -131,21 +149,20 @@ fn is_number(bytes: &[u8]) -> bool
     are_digits(bytes)
 }
 
-/// The number that digits say, and 100,000,000 where it is more.
-fn number_of(bytes: &[u8]) -> u32
+/// The number that digits say, and 10,000,000,000 where it is more.
+fn number_of(bytes: &[u8]) -> u64
     requires { list_all is_digit bytes.now ≡ Rattle.std.specs.Prelude.true }
-    ensures { result ≡ min (number_after 0 bytes.now) 100000000 }
+    ensures { result ≡ min (number_after 0 bytes.now) 10000000000 }
 {
-    let mut number = 0u32;
+    let mut number = 0u64;
     for byte in bytes {
-        number = (number * 10 + (*byte - 48) as u32).min(TOO_LARGE);
+        number = (number * 10 + (*byte - 48) as u64).min(TOO_LARGE);
     }
     number
 }
 
 /// The number that a word says, where it lies from the least to the most.
 fn number_within(least: u32, most: u32, word: &str) -> Option<u32>
-    requires { most < 100000000 }
     ensures number { result ≡ number_within least most word.now }
     ensures within { IfSome result (λ n. (least ≤ n) × (n ≤ most)) }
 {
@@ -154,10 +171,10 @@ fn number_within(least: u32, most: u32, word: &str) -> Option<u32>
         return None;
     }
     let number = number_of(bytes);
-    if number < least || most < number {
+    if number < least as u64 || (most as u64) < number {
         return None;
     }
-    Some(number)
+    Some(number as u32)
 }
 
 /// The point, in half mm, whose coordinates in mm three words say.
@@ -184,6 +201,64 @@ fn sight_of(words: &[String]) -> Option<Question>
     let from = point_of(words[2].as_str(), words[3].as_str(), words[4].as_str())?;
     let to = point_of(words[5].as_str(), words[6].as_str(), words[7].as_str())?;
     Some(Question::File(FileQuestion::Room(RoomQuestion::Sight(from, to))))
+}
+
+/// The route whose ends' coordinates in mm four words say.
+fn route_of(x0: &str, y0: &str, x1: &str, y1: &str) -> Option<Route>
+    ensures route { result ≡ route_at (coordinate x0.now) (coordinate y0.now) (coordinate x1.now) (coordinate y1.now) }
+    ensures within { IfSome result IsRouteWithinReach }
+{
+    let x0 = number_within(0, GREATEST_COORDINATE, x0)?;
+    let y0 = number_within(0, GREATEST_COORDINATE, y0)?;
+    let x1 = number_within(0, GREATEST_COORDINATE, x1)?;
+    let y1 = number_within(0, GREATEST_COORDINATE, y1)?;
+    Some(Route { x0, y0, x1, y1 })
+}
+
+/// Whether the words are numbers of lamps that rise from one to the next.
+fn are_rising(words: &[String]) -> bool
+    ensures { result ≡ are_rising 0 (map string_bytes words.now) }
+{
+    let mut least = 0u32;
+    for word in words {
+        let Some(number) = number_within(least, LAST_LAMP, word.as_str()) else {
+            return false;
+        };
+        least = number + 1;
+    }
+    true
+}
+
+/// Whether the words after the eighth mark lamps: 1 to 16 of them.
+fn marks_lamps(words: &[String]) -> bool
+    ensures marks { result ≡ marks_lamps (map string_bytes words.now) }
+    ensures nine { IsTrue result → 9 ≤ length words.now }
+{
+    if words.len() < 9 || 8 + MOST_LAMPS < words.len() {
+        return false;
+    }
+    are_rising(&words[8..])
+}
+
+/// What `escape ROOM X Y X Y MILLILUX RATIO LAMP ..` asks.
+fn escape_of(words: &[String]) -> Option<Question>
+    requires { 2 ≤ length words.now }
+    ensures asked { result ≡ escape_of (map string_bytes words.now) }
+    ensures within { IfSome result IsInRange }
+{
+    if !marks_lamps(words) {
+        return None;
+    }
+    let route = route_of(
+        words[2].as_str(),
+        words[3].as_str(),
+        words[4].as_str(),
+        words[5].as_str(),
+    )?;
+    let least = number_within(0, MOST_MILLILUX, words[6].as_str())?;
+    let ratio = number_within(1, MOST_RATIO, words[7].as_str())?;
+    let limits = RouteLimits { least, ratio };
+    Some(Question::File(FileQuestion::Room(RoomQuestion::Escape(route, limits))))
 }
 
 /// The last four bytes, and all of them where there are fewer.
@@ -298,6 +373,9 @@ fn asked_of(words: &[String]) -> Option<Question>
     if words[0].as_str() == "read" {
         return summary_of(words);
     }
+    if words[0].as_str() == "escape" {
+        return escape_of(words);
+    }
     if words.len() == 2 {
         return light_of(words);
     }
@@ -364,6 +442,25 @@ pub fn claim_name(words: &[String]) -> &str
     }
 }
 
+/// The number of a lamp that a word says, and 0 where it says none.
+fn lamp_number(word: &str) -> u32
+    ensures { result ≡ lamp_number word.now }
+{
+    number_within(0, LAST_LAMP, word).unwrap_or(0)
+}
+
+/// The numbers of the marked lamps of `escape`, in the words after the eighth; of fewer words there are none.
+pub fn marked_lamps(alloc: Global, words: &[String]) -> Result<Vec<u32>, Memory>
+    ensures lamps { IfOk result (λ v. v.items ≡ marked_lamps (map string_bytes words.now)) }
+    ensures few { IfOk result (λ v. length v.items ≤ 16) }
+{
+    let mut lamps = Vec::new(alloc);
+    for k in 8..words.len().min(8 + MOST_LAMPS) {
+        lamps.push(lamp_number(words[k].as_str()))?;
+    }
+    Ok(lamps)
+}
+
 /// The line that is written where the words are no command.
 pub const USAGE: &str =
-    "usage: lux report ROOM | grid ROOM | read FILE [SET] | sight ROOM X Y Z X Y Z | certify ROOM | check ROOM CLAIM | trial N | flux FILE SET LUMENS\n";
+    "usage: lux report ROOM | grid ROOM | read FILE [SET] | sight ROOM X Y Z X Y Z | certify ROOM | check ROOM CLAIM | trial N | flux FILE SET LUMENS | escape ROOM X Y X Y MILLILUX RATIO LAMP ..\n";

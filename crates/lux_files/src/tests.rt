@@ -1,6 +1,7 @@
 //! Whole runs over the files and the output that stand in for the real ones.
 mod aims;
 mod claims;
+mod escapes;
 mod faults;
 mod fluxes;
 mod lamp_files;
