@@ -1,4 +1,4 @@
--- The average and the uniformity of a grid whose values are in order are in order.
+-- The uniformity of a grid whose values are in order is in order.
 use Rattle.std.proofs.Common.{ℕ, zero, suc, ◌<◌, ◌≡◌, ◌==◌, Bool, true, false, if◌then◌else◌, refl, arith}
 use Rattle.std.proofs.lemmas.Bool.Decides.{nat_tests}
 use Rattle.fx_base.specs.Fraction.{Fraction, ◌≤ᶠ◌, ◌/ᶠ◌, whole, lesser}
@@ -6,7 +6,8 @@ use Rattle.fx_base.specs.Interval.{InOrder}
 use Rattle.fx_base.proofs.Order.{le_trans_f, le_one_mul_f}
 use Rattle.fx_base.proofs.Ratios.{le_lesser, over_below, over_le, by_nothing}
 use Rattle.interval_system.specs.Values.{Grid, open_count, least, average, uniformity}
-use Rattle.grid_report.proofs.Uniform.{below_least, least_below, least_below_mean, mean_le}
+use Rattle.grid_report.proofs.Uniform.{below_least, least_below, least_below_mean}
+use Rattle.scene_system.proofs.MeanOrder.{average_order}
 
 -- ---- quotients, where the divisor may be 0
 
@@ -14,11 +15,7 @@ pub at_test : (b : Bool) (x y a : Fraction) → (b ≡ true → a ≤ᶠ x) → 
 at_test true x y a f g = f refl
 at_test false x y a f g = g refl
 
--- ---- the average and the uniformity
-
-pub average_order : (s : Grid) → 0 < open_count s.covered s.points → ((g : ℕ) → g < s.points → s.covered g ≡ false → InOrder (s.value g)) → InOrder (average s)
-unfolding average
-average_order s some h = mean_le s.covered (λ g. (s.value g).lo) (λ g. (s.value g).hi) s.points some h
+-- ---- the uniformity
 
 least_order : (s : Grid) → 0 < open_count s.covered s.points → ((g : ℕ) → g < s.points → s.covered g ≡ false → InOrder (s.value g))
     → least s.covered (λ g. (s.value g).lo) s.points ≤ᶠ least s.covered (λ g. (s.value g).hi) s.points

@@ -4,9 +4,10 @@ use Rattle.std.specs.Prelude.{slice_index_or, count_by}
 use Rattle.std.proofs.Math.Seq.{drop-length}
 use Rattle.std.proofs.lemmas.Bool.{cases_lt}
 use Rattle.fx_base.proofs.Rounding.{natural-mono}
-use Rattle.grid_report.specs.Sums.{is_open, lesser_open, lower_end, upper_end, IsLeast, IsValue}
-use Rattle.grid_report.specs.declared.value.PointValue.{PointValue}
-use Rattle.grid_report.proofs.Means.{no_point}
+use Rattle.scene_system.specs.Sums.{is_open, lower_end, upper_end, IsValue}
+use Rattle.grid_report.specs.Uniformities.{lesser_open, IsLeast}
+use Rattle.scene_system.specs.declared.value.PointValue.{PointValue}
+use Rattle.scene_system.proofs.Means.{no_point}
 
 -- the least of `least` and the numbers of the values that aren't covered
 unfoldable pub least_from : (PointValue → ℕ) → List PointValue → ℕ → ℕ

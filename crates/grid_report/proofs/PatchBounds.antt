@@ -25,8 +25,8 @@ use Rattle.scene_system.specs.Scene.{patch_count, patch_place, patch_face, radio
 use Rattle.scene_system.proofs.Rows.{rows_below, rows_are, weight_close}
 use Rattle.grid_report.specs.BoundsLaws.{BoundsHoldLight, ShownHoldsLight, UnshownHasCause}
 use Rattle.grid_report.specs.PatchBounds.{low_sum, high_sum, HoldLight, AreNearLight}
-use Rattle.grid_report.proofs.Near.{lower_is, upper_is}
-use Rattle.grid_report.proofs.PointSums.{lower_sum_near, upper_sum_near}
+use Rattle.scene_system.proofs.Near.{lower_is, upper_is}
+use Rattle.scene_system.proofs.PointSums.{lower_sum_near, upper_sum_near}
 
 -- ---- what is given: a scene of the room without a heavy row
 

@@ -7,10 +7,11 @@ use Rattle.std.proofs.lemmas.Grind.{div_ceil_times}
 use Rattle.report_form.specs.declared.report.Printed.{Printed}
 use Rattle.grid_report.specs.Laws.{EndsAreTheReports}
 use Rattle.grid_report.specs.Reports.{in_cents, IsUniformityPrinted}
-use Rattle.grid_report.specs.Sums.{average_high, average_low, lower_end, upper_end, IsLeast, IsUniformity}
-use Rattle.grid_report.specs.declared.value.Ratio.{Ratio}
-use Rattle.grid_report.specs.declared.value.PointValue.{PointValue}
-use Rattle.grid_report.proofs.Means.{no_point}
+use Rattle.scene_system.specs.Sums.{average_high, average_low, lower_end, upper_end}
+use Rattle.grid_report.specs.Uniformities.{IsLeast, IsUniformity}
+use Rattle.grid_report.specs.declared.ratio.Ratio.{Ratio}
+use Rattle.scene_system.specs.declared.value.PointValue.{PointValue}
+use Rattle.scene_system.proofs.Means.{no_point}
 
 -- ---- one uniformity
 

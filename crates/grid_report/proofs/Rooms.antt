@@ -10,58 +10,32 @@ use Rattle.fx_base.specs.Interval.{Meets, LiesIn, InOrder, outward}
 use Rattle.fx_base.specs.Units.{ticks, natural}
 use Rattle.fx_base.proofs.Order.{le_lt_trans_f, sub_back_f}
 use Rattle.fx_base.proofs.Rounding.{natural-mono}
-use Rattle.interval_system.specs.Radiosity.{Light, IsLightOf, values}
+use Rattle.interval_system.specs.Radiosity.{values}
 use Rattle.interval_system.specs.Values.{Grid, open_count, average, uniformity}
 use Rattle.room_layout.specs.declared.room.Room.{Room}
 use Rattle.photo_table.specs.Table.{Table}
 use Rattle.scene_system.specs.Scene.{task_point_of, radiosity, loose_radiosity}
 use Rattle.grid_report.specs.Headline.{least_end, IsInOrder, AreInOrder, Fits, HaveValuesInOrder, MeetsValues, IsNarrow, IsRight}
-use Rattle.grid_report.specs.RoomValues.{ForExactValues, ForLooseValues}
+use Rattle.scene_system.specs.RoomValues.{ForExactValues, ForLooseValues}
 use Rattle.report_form.specs.Spelled.{said}
 use Rattle.report_form.specs.declared.report.Printed.{Printed}
 use Rattle.report_form.specs.declared.report.Report.{Report}
-use Rattle.grid_report.specs.PointValues.{ArePoints}
+use Rattle.scene_system.specs.PointValues.{ArePoints}
 use Rattle.grid_report.specs.Reports.{in_cents, printed_ratio, printed_value, IsReportOf}
-use Rattle.grid_report.specs.Sums.{lower_end, upper_end, open_total, average_low, average_high, IsLeast, IsUniformity, IsValue}
-use Rattle.grid_report.specs.declared.value.PointValue.{PointValue}
-use Rattle.grid_report.specs.declared.value.Ratio.{Ratio}
-use Rattle.grid_report.proofs.GridOrder.{average_order, uniformity_order}
-use Rattle.grid_report.proofs.Means.{AreCoveredBy, no_point}
-use Rattle.grid_report.proofs.TickMeans.{count_is}
+use Rattle.scene_system.specs.Sums.{lower_end, upper_end, open_total, average_low, average_high, IsValue}
+use Rattle.grid_report.specs.Uniformities.{IsLeast, IsUniformity}
+use Rattle.scene_system.specs.declared.value.PointValue.{PointValue}
+use Rattle.grid_report.specs.declared.ratio.Ratio.{Ratio}
+use Rattle.scene_system.proofs.MeanOrder.{average_order}
+use Rattle.grid_report.proofs.GridOrder.{uniformity_order}
+use Rattle.scene_system.proofs.Means.{no_point}
+use Rattle.scene_system.proofs.TickMeans.{count_is}
 use Rattle.grid_report.proofs.Printing.{printed_meets, printed_near}
-use Rattle.grid_report.proofs.Right.{averages_order, AreMeeting, AreNear, average_meets, average_near_low, average_near_high, least_within_average, down_uniformity, up_uniformity, positive_average, down_uniformity_near, up_uniformity_near}
+use Rattle.scene_system.proofs.Averages.{averages_order, AreMeeting, AreNear, average_meets, average_near_low, average_near_high}
+use Rattle.grid_report.proofs.Right.{least_within_average, down_uniformity, up_uniformity, positive_average, down_uniformity_near, up_uniformity_near}
 use Rattle.grid_report.proofs.Reported.{cents_order}
 use Rattle.grid_report.proofs.Leasts.{leasts_order}
 use Rattle.grid_report.proofs.Shares.{IsDown, IsUp, is_down, is_up, down_by_ends, up_by_ends}
-
--- ---- the values of a room, as those of a grid
-
-covered_points : (tables : List Table) (room : Room) (vs : List PointValue) → ArePoints tables room vs → AreCoveredBy vs (λ g. (task_point_of room g).covered)
-covered_points tables room vs are = λ g d l. (are.each g d l).covered_is
-
-each_value : (tables : List Table) (room : Room) (vs : List PointValue) → ArePoints tables room vs → (g : ℕ) (d : PointValue) → g < length vs → IsValue (slice_index_or vs g d)
-each_value tables room vs are g d l = let v = are.each g d l in record { low = v.low; order = v.order; high = v.high }
-
-meeting : (tables : List Table) (room : Room) (vs : List PointValue) (n : ℕ) (light : Light) → 2 ≤ n → IsLightOf (radiosity n tables room).patches light → ArePoints tables room vs
-    → AreMeeting (values (radiosity n tables room) light) vs
-unfolding values
-meeting tables room vs n light deep solves are = record {
-  count = sym are.count;
-  covered = covered_points tables room vs are;
-  meets = λ g d l o. (are.each g d l).meets ((are.each g d l).covered_is ∙ o) n deep light solves;
-  order = λ g l. are.order g l n deep light solves;
-}
-
-near : (tables : List Table) (room : Room) (vs : List PointValue) (n : ℕ) (light : Light) → 2 ≤ n → IsLightOf (loose_radiosity n tables room).patches light → ArePoints tables room vs
-    → AreNear 2048 (values (loose_radiosity n tables room) light) vs
-unfolding values
-near tables room vs n light deep solves are = record {
-  few = omega arith;
-  count = sym are.count;
-  covered = covered_points tables room vs are;
-  near = λ g d l o. (are.each g d l).near ((are.each g d l).covered_is ∙ o) n deep light solves;
-  order = λ g l. are.loose_order g l n deep light solves;
-}
 
 -- ---- the printed values of the points
 

@@ -2,11 +2,10 @@
 use Rattle.std.proofs.Common.{ℕ, zero, suc, ◌+◌, ◌<◌, ◌≡◌, Bool, true, false, arith, refl, subst, inl, inr, if◌then◌else◌, ◌==◌}
 use Rattle.std.proofs.lemmas.Bool.{cases_lt}
 use Rattle.std.proofs.lemmas.Bool.Decides.{nat_tests}
-use Rattle.grid_report.proofs.Means.{whole_positive}
+use Rattle.scene_system.proofs.Means.{whole_positive}
 use Rattle.fx_base.specs.Fraction.{Fraction, ◌≤ᶠ◌, ◌*ᶠ◌, whole, lesser, sum_to}
 use Rattle.fx_base.proofs.Order.{le_refl_f, le_trans_f, add_le_f, mul_le_f, mul_add_f, mul_one_f, mul_zero_f, le_add_f}
-use Rattle.fx_base.proofs.Ratios.{lesser_left, lesser_right, le_lesser, le_over, over_le, whole_split}
-use Rattle.fx_base.proofs.Sums.{sum_to_le}
+use Rattle.fx_base.proofs.Ratios.{lesser_left, lesser_right, le_lesser, le_over, whole_split}
 use Rattle.interval_system.specs.Values.{open_count, open_sum, mean, least}
 
 -- ---- the least of the values that aren't covered
@@ -101,17 +100,3 @@ pub least_below_mean : (covered : ℕ → Bool) (v w : ℕ → Fraction) (n : �
 unfolding mean
 least_below_mean covered v w n some h = le_over (open_sum covered w n) (whole (open_count covered n)) (least covered v n) (whole_positive (open_count covered n) some)
     (sum_most covered w (least covered v n) n (λ g l o. le_trans_f (least_below covered v n g l o) (h g l o)))
-
--- ---- the mean grows with the values
-
-term_le : (b : Bool) (x y : Fraction) → (b ≡ false → x ≤ᶠ y) → (if b then whole 0 else x) ≤ᶠ (if b then whole 0 else y)
-term_le true x y h = le_refl_f (whole 0)
-term_le false x y h = h refl
-
-pub mean_le : (covered : ℕ → Bool) (v w : ℕ → Fraction) (n : ℕ) → 0 < open_count covered n
-    → ((g : ℕ) → g < n → covered g ≡ false → v g ≤ᶠ w g) → mean covered v n ≤ᶠ mean covered w n
-unfolding mean open_sum
-mean_le covered v w n some h =
-    over_le (whole_positive (open_count covered n) some)
-    (sum_to_le n (λ g. if covered g then whole 0 else v g) (λ g. if covered g then whole 0 else w g) (λ g l. term_le (covered g) (v g) (w g) (h g l)))
-    (le_refl_f (whole (open_count covered n)))

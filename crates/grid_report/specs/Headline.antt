@@ -10,7 +10,7 @@ use Rattle.scene_system.specs.Scene.{task_point_of, radiosity, loose_radiosity}
 use Rattle.report_form.specs.Spelled.{said}
 use Rattle.report_form.specs.declared.report.Printed.{Printed}
 use Rattle.report_form.specs.declared.report.Report.{Report}
-use Rattle.grid_report.specs.RoomValues.{ForExactValues, ForLooseValues}
+use Rattle.scene_system.specs.RoomValues.{ForExactValues, ForLooseValues}
 
 abbrev pub ends_at : Report → ℕ → Option Printed
 ends_at r g = slice_index_or r.points g None

@@ -1,39 +1,23 @@
 -- What holds of values, of their average and uniformity, and of reports.
 use Rattle.std.specs.Prelude.{ℕ, ◌<◌, ◌≡◌, false, List}
 use Rattle.fx_base.specs.Interval.{InOrder}
-use Rattle.fx_base.specs.declared.Tick.{Tick}
-use Rattle.interval_system.specs.System.{NoneHeavy}
-use Rattle.interval_system.specs.Values.{Grid, open_count, average, uniformity}
-use Rattle.radiosity_solve.specs.Bounds.{IsLowerAnswer, IsUpperAnswer, IsInOrder}
-use Rattle.room_layout.specs.Accepted.{IsAccepted}
+use Rattle.interval_system.specs.Values.{Grid, open_count, uniformity}
 use Rattle.room_layout.specs.declared.room.Room.{Room}
 use Rattle.photo_table.specs.Table.{Table}
-use Rattle.scene_system.specs.Assembled.{Numbers, IsSceneOf, IsWellFormed}
-use Rattle.scene_system.specs.Tables.{AreExactTables}
 use Rattle.grid_report.specs.Headline.{IsRight}
-use Rattle.grid_report.specs.PointValues.{AreValuesOf, ArePoints}
+use Rattle.scene_system.specs.PointValues.{ArePoints}
 use Rattle.report_form.specs.Judged.{ends_of}
 use Rattle.report_form.specs.declared.judged.Ends.{Ends}
 use Rattle.report_form.specs.declared.report.Report.{Report}
 use Rattle.grid_report.specs.Reports.{AreEndsOf, IsReportOf}
-use Rattle.grid_report.specs.Sums.{open_total}
-use Rattle.grid_report.specs.declared.value.PointValue.{PointValue}
-
--- the values of a scene of a room, with bounds of the light of its patches, are those of the room: they meet the exact values at each
--- depth from 2, and are near the loose ones
-abbrev pub ValuesArePoints : Type 0
-ValuesArePoints = (tables : List Table) (room : Room) (s : Numbers) (lower upper : List Tick) (values : List PointValue) → IsAccepted room → AreExactTables room tables → IsWellFormed s → IsSceneOf tables room s
-    → NoneHeavy s.system.rows → IsLowerAnswer s.system lower → IsUpperAnswer s.system upper → IsInOrder s.system lower upper
-    → AreValuesOf s lower upper values → ArePoints tables room values
+use Rattle.scene_system.specs.Sums.{open_total}
+use Rattle.scene_system.specs.declared.value.PointValue.{PointValue}
 
 -- the report of such values is right
 abbrev pub ReportIsRight : Type 0
 ReportIsRight = (tables : List Table) (room : Room) (values : List PointValue) (r : Report) → ArePoints tables room values → 0 < open_total values → IsReportOf room.task.nx values r → IsRight tables room r
 
--- where the values at the points that aren't covered are in order, and there is one, the average and the uniformity are
-abbrev pub AverageIsInOrder : Type 0
-AverageIsInOrder = (s : Grid) → 0 < open_count s.covered s.points → ((g : ℕ) → g < s.points → s.covered g ≡ false → InOrder (s.value g)) → InOrder (average s)
-
+-- where the values at the points that aren't covered are in order, and there is one, the uniformity is
 abbrev pub UniformityIsInOrder : Type 0
 UniformityIsInOrder = (s : Grid) → 0 < open_count s.covered s.points → ((g : ℕ) → g < s.points → s.covered g ≡ false → InOrder (s.value g)) → InOrder (uniformity s)
 

@@ -1,7 +1,5 @@
 -- The definitions, a file for each topic.
-pub mod Sums
-pub mod RoomValues
-pub mod PointValues
+pub mod Uniformities
 pub mod Reports
 pub mod Headline
 pub mod Laws

@@ -8,8 +8,8 @@ use Rattle.grid_report.specs.Headline.{least_end}
 use Rattle.report_form.specs.declared.report.Printed.{Printed}
 use Rattle.grid_report.specs.Reports.{in_cents, printed_ratio, printed_value}
 use Rattle.interval_system.specs.Sent.{sent_low, sent_high}
-use Rattle.grid_report.specs.Sums.{average_low, average_high}
-use Rattle.grid_report.specs.declared.value.PointValue.{PointValue}
+use Rattle.scene_system.specs.Sums.{average_low, average_high}
+use Rattle.scene_system.specs.declared.value.PointValue.{PointValue}
 
 unfoldable everything : Unit {0}
 unfolding ratio whole ◌+ᶠ◌ ◌*ᶠ◌ ◌/ᶠ◌ lesser sum_to open_count open_sum mean least average uniformity

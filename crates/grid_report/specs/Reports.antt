@@ -6,9 +6,10 @@ use Rattle.fx_base.specs.Rounded.{hundredths_above, hundredths_below}
 use Rattle.report_form.specs.declared.judged.Ends.{Ends}
 use Rattle.report_form.specs.declared.report.Printed.{Printed}
 use Rattle.report_form.specs.declared.report.Report.{Report}
-use Rattle.grid_report.specs.Sums.{average_low, average_high, IsUniformity}
-use Rattle.grid_report.specs.declared.value.Ratio.{Ratio}
-use Rattle.grid_report.specs.declared.value.PointValue.{PointValue}
+use Rattle.scene_system.specs.Sums.{average_low, average_high}
+use Rattle.grid_report.specs.Uniformities.{IsUniformity}
+use Rattle.grid_report.specs.declared.ratio.Ratio.{Ratio}
+use Rattle.scene_system.specs.declared.value.PointValue.{PointValue}
 
 -- ticks in hundredths, rounded down and up
 abbrev pub in_cents : ℕ → ℕ → Printed

@@ -1,26 +1,17 @@
 //! What holds of the definitions in `specs/`, each as the contract of a function that does nothing.
 ghost use Rattle.grid_report.specs.BoundsLaws.{BoundsHoldLight, ShownHoldsLight, UnshownHasCause};
-ghost use Rattle.grid_report.specs.Laws.{AverageIsInOrder, EndsAreTheReports, ReportIsRight, UniformityIsInOrder, ValuesArePoints};
+ghost use Rattle.grid_report.specs.Laws.{EndsAreTheReports, ReportIsRight, UniformityIsInOrder};
 
 /// Where what is divided and the divisor change little, the lesser of 1 and their quotient does.
 pub use fx_base::laws::quotient_is_steady;
 
-/// The average of values in order is in order.
-#[tactic(auto, using(crate::proofs::GridOrder::average_order))]
-pub fn average_is_in_order()
-    ensures { AverageIsInOrder }
-{}
+/// The average of values in order is in order, and the values that a scene gives are those of its room.
+pub use scene_system::laws::{average_is_in_order, values_are_points};
 
 /// The uniformity of values in order is in order.
 #[tactic(auto, using(crate::proofs::GridOrder::uniformity_order))]
 pub fn uniformity_is_in_order()
     ensures { UniformityIsInOrder }
-{}
-
-/// The values that a scene of a room without a heavy row gives, with bounds of the light of its patches, are those of the room: at each
-/// depth from 2 they meet the exact values and lie within 2,048 ticks of the loose ones, which are in order.
-pub fn values_are_points()
-    ensures { ValuesArePoints }
 {}
 
 /// The report of the values of a room's task points is right: it meets the exact values at each depth from 2, and is near the loose

@@ -1,18 +1,17 @@
-//! The values at the task points of a scene, their average and their uniformity, and their report.
+//! The uniformity of the values at task points, and the report of them.
 #![tactic(auto)]
 
-mod grid;
 pub mod laws;
+mod leasts;
+mod ratio;
 mod results;
-mod sums;
 #[cfg(test)]
 mod tests;
 mod text;
-mod value;
 
-pub use grid::points;
+pub use leasts::uniformity;
+pub use ratio::Ratio;
 pub use report_form::{Ends, Points, Printed, Report};
 pub use results::{ends, report};
-pub use sums::{average, uniformity};
+pub use scene_system::{PointValue, average, points};
 pub use text::{grid_text, report_text};
-pub use value::{PointValue, Ratio};

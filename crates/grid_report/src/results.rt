@@ -3,12 +3,13 @@ ghost use Rattle.std.specs.Prelude.{◌≡◌, ◌^◌, ◌<◌, ◌≤◌, ◌�
 ghost use Rattle.fx_base.specs.Units.{natural};
 ghost use Rattle.report_form.specs.Judged.{AreInOrder, CanBeJudged};
 ghost use Rattle.grid_report.specs.Reports.{in_cents, printed_ratio, printed_value, AreEndsOf, IsReportOf, IsUniformityPrinted};
-ghost use Rattle.grid_report.specs.Sums.{average_high, average_low, open_total, IsValue};
+ghost use Rattle.scene_system.specs.Sums.{average_high, average_low, open_total, IsValue};
 
-use crate::sums::{average, uniformity_by};
-use crate::value::{PointValue, Ratio};
+use crate::leasts::uniformity_by;
+use crate::ratio::Ratio;
 use fx_base::{Memory, Span, ceil_cent, floor_cent};
 use report_form::{Ends, Points, Printed, Report};
+use scene_system::{PointValue, average};
 use std::alloc::Global;
 
 /// Ticks in hundredths, rounded outward.

@@ -1,19 +1,10 @@
 //! What is expected is worked out with Python's fractions from the rules of the definitions: sums over the points that aren't covered,
 //! quotients rounded outward, and a uniformity of at most 1.
-ghost use Rattle.std.specs.Prelude.{◌≡◌, ◌^◌, ◌<◌, ◌≤◌, true, false, All, IfOk, length};
-ghost use Rattle.interval_system.specs.System.{IsRow};
-ghost use Rattle.grid_report.specs.Sums.{open_total, IsValue};
+ghost use Rattle.std.specs.Prelude.{◌≡◌, ◌^◌, ◌<◌, ◌≤◌, true, false, All, length};
+ghost use Rattle.scene_system.specs.Sums.{open_total, IsValue};
 
-use crate::{
-    Ends, PointValue, Ratio, average, ends, grid_text, points, report, report_text, uniformity,
-};
-use fx_base::{Memory, Span, Tick, Weight, tick_of};
-use interval_system::{IntervalSystem, Row};
-use patch_mesh::{Patch, TaskPoint};
-use radiosity_solve::Bounds;
-use room_layout::{Face, Point};
-use scene_system::Scene;
-use std::alloc::Global;
+use crate::{Ends, PointValue, Ratio, ends, grid_text, report, report_text, uniformity};
+use fx_base::{Span, tick_of};
 use std::test::Fail;
 
 /// The value at a point that isn't covered, in ticks.
@@ -40,72 +31,10 @@ fn dark() -> PointValue
     }
 }
 
-const FLOOR: Patch = Patch {
-    centre: Point { x: 2, y: 2, z: 0 },
-    face: Face::Up,
-    area: 4,
-    reflect: 500,
-};
-
-fn task_point(covered: bool) -> TaskPoint
-    ensures { result.covered ≡ covered }
-{
-    TaskPoint {
-        at: Point { x: 2, y: 2, z: 1 },
-        covered,
-    }
-}
-
-/// One weight of a half, up to a tick.
-fn half(alloc: Global) -> Result<Row, Memory>
-    ensures size { IfOk result (λ row. length row ≡ 1) }
-    ensures row { IfOk result IsRow }
-{
-    let mut row = Row::new(alloc, 1)?;
-    row.put(
-        0,
-        Weight {
-            lo: 34_359_738_368,
-            hi: 34_359_738_369,
-        },
-    );
-    let _size = row.len();
-    Ok(row)
-}
-
-// 1000 ticks and half of 7 ticks, and 1001 and half of 9, each half rounded outward
-#[test]
-fn points_have_the_light_of_lamps_and_patches(rt: HostRuntime) -> Result<(), Fail> {
-    let alloc = rt.alloc();
-    let direct = Span::new(Tick(1000), Tick(1001));
-    let scene = Scene {
-        patches: vec![in alloc; FLOOR]?,
-        points: vec![in alloc; task_point(false), task_point(true)]?,
-        system: IntervalSystem::new(alloc, 1)?,
-        point_rows: vec![in alloc; half(alloc)?, half(alloc)?]?,
-        point_direct: vec![in alloc; direct, direct]?,
-    };
-    let bounds = Bounds {
-        lower: vec![in alloc; Tick(7)]?,
-        upper: vec![in alloc; Tick(9)]?,
-    };
-    let values = points(alloc, &scene, &bounds)?;
-    assert_eq!(rt; values.len(), 2);
-    assert_eq!(rt; values[0].value.lo(), Tick(1003));
-    assert_eq!(rt; values[0].value.hi(), Tick(1006));
-    assert!(rt; values[1].covered);
-    assert_eq!(rt; values[1].value.hi(), Tick(0));
-    Ok(())
-}
-
 #[test]
 fn covered_points_do_not_count(rt: HostRuntime) -> Result<(), Fail> {
-    let values = [lit(1000, 1003), dark(), lit(2000, 2006), lit(10, 12)];
-    let mean = average(&values);
-    assert_eq!(rt; mean.lo(), Tick(1003));
-    assert_eq!(rt; mean.hi(), Tick(1007));
     assert_eq!(rt;
-        uniformity(&values),
+        uniformity(&[lit(1000, 1003), dark(), lit(2000, 2006), lit(10, 12)]),
         Some(Ratio {
             lo: 9930,
             hi: 11965
@@ -135,11 +64,7 @@ fn uniformity_is_at_most_one(rt: HostRuntime) -> Result<(), Fail> {
 
 #[test]
 fn nearly_no_light_has_no_uniformity(rt: HostRuntime) -> Result<(), Fail> {
-    let values = [lit(0, 50), lit(1, 60)];
-    let mean = average(&values);
-    assert_eq!(rt; mean.lo(), Tick(0));
-    assert_eq!(rt; mean.hi(), Tick(55));
-    assert_eq!(rt; uniformity(&values), None);
+    assert_eq!(rt; uniformity(&[lit(0, 50), lit(1, 60)]), None);
     Ok(())
 }
 

@@ -4,11 +4,11 @@ ghost use Rattle.report_form.specs.Grid.{grid_bytes};
 ghost use Rattle.report_form.specs.Spelled.{report_text};
 ghost use Rattle.report_form.specs.declared.report.Report.{Report};
 ghost use Rattle.grid_report.specs.Reports.{IsReportOf};
-ghost use Rattle.grid_report.specs.Sums.{open_total, IsValue};
+ghost use Rattle.scene_system.specs.Sums.{open_total, IsValue};
 
 use crate::results::report;
-use crate::value::PointValue;
 use fx_base::Memory;
+use scene_system::PointValue;
 use std::alloc::Global;
 
 /// The report of the values at task points as text, with so many columns: the line of each, that of the average and that of the

@@ -9,3 +9,14 @@ pub mod Heavy
 pub mod Lights
 pub mod HiddenPairs
 pub mod RowLists
+pub mod PointSums
+pub mod PointOrder
+pub mod Near
+pub mod Composed
+pub mod AtPoints
+pub mod Means
+pub mod MeanOrder
+pub mod TickMeans
+pub mod Totals
+pub mod Averages
+pub mod RoomAverages

@@ -31,7 +31,7 @@ use Rattle.scene_system.specs.Positions.{ArePointsOfFirst}
 use Rattle.scene_system.specs.Receivers.{no_receiver, place_lit, AreReceiversAt}
 use Rattle.scene_system.specs.Scene.{no_patch, patch_count, patch_face, patch_of, patch_place}
 use Rattle.scene_system.specs.Sight.{AreVantagesOf, IsIndexed, at_of}
-use Rattle.scene_system.specs.declared.points.LampPoints.{LampPoints}
+use Rattle.scene_system.specs.declared.lamps.LampPoints.{LampPoints}
 use Rattle.scene_system.specs.declared.receiver.Receiver.{Receiver}
 use Rattle.scene_system.proofs.OneMore.{at_last, before, longer}
 

@@ -11,4 +11,8 @@ pub mod Reserved
 pub mod Sources
 pub mod RowSums
 pub mod Laws
+pub mod RoomValues
+pub mod PointValues
+pub mod Sums
+pub mod ValueLaws
 mod SceneTests

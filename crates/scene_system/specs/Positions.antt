@@ -13,7 +13,7 @@ use Rattle.direct_light.specs.Lamps.{lamp_points}
 use Rattle.scene_system.specs.Causes.{ticks_of}
 use Rattle.scene_system.specs.Light.{no_lamp}
 use Rattle.scene_system.specs.Sight.{AreVantagesOf}
-use Rattle.scene_system.specs.declared.points.LampPoints.{LampPoints}
+use Rattle.scene_system.specs.declared.lamps.LampPoints.{LampPoints}
 
 -- the points of the first `count` lamps of a room, lamp by lamp
 pub record ArePointsOfFirst (room : Room) (index : SightIndex) (count : ℕ) (points : List LampPoints) : Type 0 where

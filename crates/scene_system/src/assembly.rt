@@ -11,7 +11,7 @@ ghost use Rattle.scene_system.specs.Tables.{AreExactTables, AreKept, AreTablesOf
 use crate::direct::lights_at;
 use crate::fault::SceneFault;
 use crate::limits::{open_points, total_ticks};
-use crate::points::points_of_lamps;
+use crate::lamps::points_of_lamps;
 use crate::receiver::{lit_patches, lit_points};
 use crate::scene::Scene;
 use crate::sources::Sources;

@@ -1,5 +1,6 @@
 //! What holds of the definitions in `specs/`, each as the contract of a function that does nothing.
 ghost use Rattle.scene_system.specs.Laws.{RadiosityIsInOrder, TotalIsOfTables};
+ghost use Rattle.scene_system.specs.ValueLaws.{AverageIsInOrder, ValuesArePoints};
 ghost use Rattle.scene_system.specs.RowSums.{HeavyHasCause, MildIsServed, NoneIsShownHeavy, RowsStayBelowOne};
 
 /// The enclosures of the coefficients and of the direct light of an accepted room whose files have exact tables aren't empty, at any
@@ -34,4 +35,16 @@ pub fn rows_stay_below_one()
 /// The greatest intensities of all lamps add up to as many ticks by the program's tables as by the exact ones that were rounded to them.
 pub fn total_is_of_tables()
     ensures { TotalIsOfTables }
+{}
+
+/// The average of values in order is in order.
+#[tactic(auto, using(crate::proofs::MeanOrder::average_order))]
+pub fn average_is_in_order()
+    ensures { AverageIsInOrder }
+{}
+
+/// The values that a scene of a room without a heavy row gives, with bounds of the light of its patches, are those of the room: at each
+/// depth from 2 they meet the exact values and lie within 2,048 ticks of the loose ones, which are in order.
+pub fn values_are_points()
+    ensures { ValuesArePoints }
 {}

@@ -1,5 +1,5 @@
 //! What lights the places of a room.
-use crate::points::LampPoints;
+use crate::lamps::LampPoints;
 use crate::receiver::Receiver;
 use patch_mesh::Patch;
 use photo_table::PhotoTable;

@@ -4,6 +4,7 @@ ghost use Rattle.std.specs.Prelude.{◌≡◌, ◌<◌, ◌≤◌, ◌≤ℤ◌,
 ghost use Rattle.room_layout.specs.Accepted.{IsAccepted, IsBlockIn, IsBetween, IsFileUse, IsLampIn, IsRoomSize, IsTaskIn};
 
 mod meeting;
+mod values;
 
 use crate::{Scene, SceneFault, assemble};
 use fork_rows::OpenGate;

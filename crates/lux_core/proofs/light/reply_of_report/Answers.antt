@@ -1,6 +1,6 @@
 -- What of `reply_of_report` wants a proof by hand.
 use Rattle.std.proofs.Common.{◌<◌}
-use Rattle.grid_report.specs.Sums.{open_total}
+use Rattle.scene_system.specs.Sums.{open_total}
 use Rattle.scene_system.specs.Assembled.{numbers}
 use Rattle.lux_core.proofs.light.reply_of_report.Goals as goal
 
