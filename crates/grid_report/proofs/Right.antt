@@ -17,6 +17,7 @@ use Rattle.scene_system.proofs.TickMeans.{count_is, mean_below}
 use Rattle.grid_report.proofs.TickLeasts.{least_above, least_below_ticks, least_near_above, least_near_below}
 use Rattle.grid_report.proofs.GridOrder.{at_test}
 use Rattle.grid_report.proofs.Uniform.{least_below_mean}
+use Rattle.scene_system.proofs.Averages.{AreMeeting, AreNear, near_low, near_high, average_meets, average_near_low, average_near_high, average_order_near, ends_order, same_default, default_same}
 
 -- ---- it meets the uniformity
 

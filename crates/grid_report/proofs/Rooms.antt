@@ -36,6 +36,7 @@ use Rattle.grid_report.proofs.Right.{least_within_average, down_uniformity, up_u
 use Rattle.grid_report.proofs.Reported.{cents_order}
 use Rattle.grid_report.proofs.Leasts.{leasts_order}
 use Rattle.grid_report.proofs.Shares.{IsDown, IsUp, is_down, is_up, down_by_ends, up_by_ends}
+use Rattle.scene_system.proofs.RoomAverages.{covered_points, each_value, meeting, near}
 
 -- ---- the printed values of the points
 

@@ -1,15 +1,15 @@
 //! The uniformity of the values at task points, and the report of them.
 #![tactic(auto)]
 
+mod evenness;
 pub mod laws;
-mod leasts;
 mod ratio;
 mod results;
 #[cfg(test)]
 mod tests;
 mod text;
 
-pub use leasts::uniformity;
+pub use evenness::uniformity;
 pub use ratio::Ratio;
 pub use report_form::{Ends, Points, Printed, Report};
 pub use results::{ends, report};

@@ -5,7 +5,7 @@ ghost use Rattle.report_form.specs.Judged.{AreInOrder, CanBeJudged};
 ghost use Rattle.grid_report.specs.Reports.{in_cents, printed_ratio, printed_value, AreEndsOf, IsReportOf, IsUniformityPrinted};
 ghost use Rattle.scene_system.specs.Sums.{average_high, average_low, open_total, IsValue};
 
-use crate::leasts::uniformity_by;
+use crate::evenness::uniformity_by;
 use crate::ratio::Ratio;
 use fx_base::{Memory, Span, ceil_cent, floor_cent};
 use report_form::{Ends, Points, Printed, Report};

@@ -10,8 +10,8 @@ ghost use Rattle.scene_system.specs.Tables.{AreExactTables, AreKept, AreTablesOf
 
 use crate::direct::lights_at;
 use crate::fault::SceneFault;
-use crate::limits::{open_points, total_ticks};
 use crate::lamps::points_of_lamps;
+use crate::limits::{open_points, total_ticks};
 use crate::receiver::{lit_patches, lit_points};
 use crate::scene::Scene;
 use crate::sources::Sources;

@@ -3,7 +3,7 @@ use Rattle.std.proofs.Common.{◌≡◌, ◌*◌, ◌/◌, ◌<◌, min, rules}
 use Rattle.std.specs.Int.{div_ceil}
 use Rattle.scene_system.specs.Sums.{average_high, average_low}
 use Rattle.grid_report.proofs.Reported.{shares_order}
-use Rattle.grid_report.proofs.leasts.uniformity_by.Goals as goal
+use Rattle.grid_report.proofs.evenness.uniformity_by.Goals as goal
 
 pub returns-clause-order : goal.returns-clause-order
 returns-clause-order c =

@@ -2,7 +2,7 @@
 use Rattle.std.proofs.Common.{arith}
 use Rattle.scene_system.specs.Sums.{lower_end, upper_end}
 use Rattle.grid_report.proofs.Leasts.{least_step, all_least, least_within, leasts_order, lower_within, upper_within}
-use Rattle.grid_report.proofs.leasts.least_ends.Goals as goal
+use Rattle.grid_report.proofs.evenness.least_ends.Goals as goal
 
 pub loop-point-preserved : goal.loop-point-preserved
 loop-point-preserved c = record {
