@@ -153,17 +153,18 @@ def task_points(task):
             yield i, j, [middle(0, columns, i), middle(1, rows, j), float(task["height"])]
 
 
-def main():
-    document = tomllib.loads(Path(sys.argv[1]).read_text())
+def reckon(document, folder):
+    """How many patches the room has, the greatest row sum with its row, and column, row and value of each task point: None where a box
+    covers the point. No points where the row sum leaves no solution."""
     room, task = document["room"], document["task"]
-    boxes, lights = document.get("box", []), list(sources(document.get("lamp", []), Path(sys.argv[1]).parent))
+    boxes, lights = document.get("box", []), list(sources(document.get("lamp", []), folder))
     patches = [t for s in surfaces(room, boxes) for t in tiles(*s, room.get("patch", 600))]
     rows = [[coefficient(boxes, p[0], p[1], other) for other in patches] for p in patches]
     light = [direct(boxes, lights, p[0], p[1]) for p in patches]
     greatest = max(map(sum, rows))
-    print("patches", len(patches), "greatest row sum", f"{greatest:.6f}", "of row", [sum(r) for r in rows].index(greatest))
+    heaviest = len(patches), greatest, [sum(r) for r in rows].index(greatest)
     if greatest >= 1:
-        return
+        return heaviest, []
     solved, moved = light[:], 1.0
     while moved > 1e-10:
         moved = 0.0
@@ -171,18 +172,31 @@ def main():
             new = light[i] + sum(k * h for k, h in zip(row, solved) if k)
             moved = max(moved, abs(new - solved[i]))
             solved[i] = new
-    values = []
+    points = []
     for i, j, p in task_points(task):
         if any(all(b["lo"][a] < p[a] < b["hi"][a] for a in range(3)) for b in boxes):
-            print("point", i, j, "covered")
+            points.append((i, j, None))
             continue
         value = direct(boxes, lights, p, UP) + sum(coefficient(boxes, p, UP, o) * h for o, h in zip(patches, solved))
-        print("point", i, j, f"{value:.6f}")
-        values.append(value)
+        points.append((i, j, value))
+    return heaviest, points
+
+
+def mean(points):
+    """The average over the points that no box covers."""
+    values = [value for _, _, value in points if value is not None]
+    return sum(values) / len(values)
+
+
+def main():
+    (patches, greatest, row), points = reckon(tomllib.loads(Path(sys.argv[1]).read_text()), Path(sys.argv[1]).parent)
+    print("patches", patches, "greatest row sum", f"{greatest:.6f}", "of row", row)
+    for i, j, value in points:
+        print("point", i, j, "covered" if value is None else f"{value:.6f}")
+    values = [value for _, _, value in points if value is not None]
     if values:
-        mean = sum(values) / len(values)
-        print("average", f"{mean:.6f}")
-        print("uniformity", f"{min(values) / mean:.6f}" if mean else "none")
+        print("average", f"{mean(points):.6f}")
+        print("uniformity", f"{min(values) / mean(points):.6f}" if mean(points) else "none")
 
 
 if __name__ == "__main__":

@@ -1,0 +1,4 @@
+-- The lemmas, a file for each topic.
+pub mod Escapes
+pub mod Summaries
+pub mod Pages

@@ -1,0 +1,8 @@
+-- One piece after the other.
+use Rattle.plan_drawing.proofs.Growth.{after}
+use Rattle.report_page.specs.Files.{file_table}
+use Rattle.report_page.proofs.files.push_table.Goals as goal
+
+pub returns : goal.returns
+unfolding file_table
+returns c = after _ _ _ _ _ (after _ _ _ _ _ (after _ _ _ _ _ (c.in_ok-push_fixed.ensures) (c.in_ok-push_rows.ensures)) (c.in_ok-push_table_end.ensures)) (c.in_ok-push_fixed-2.ensures)
