@@ -1,6 +1,6 @@
 -- Where an answer can be given and nothing fails, it is given.
 use Rattle.std.proofs.Common.{ℕ, zero, suc, ◌<◌, ◌≤◌, ◌≡◌, ◌≢◌, ◌⊎◌, inl, inr, List, [], ◌∷◌, length, slice_index_or, refl, sym, ap, ◌∙◌, subst, arith}
-use Rattle.std.specs.Prelude.{Option, Some, None, IfSome, IsSomeAnd, Result, Ok, Err}
+use Rattle.std.specs.Prelude.{Bool, true, false, Option, Some, None, IfSome, IsSomeAnd, Result, Ok, Err}
 use Rattle.std.proofs.Math.ListN.{length-map}
 use Rattle.lux_io.specs.Files.{bytes_of, Rose, Stood}
 use Rattle.lm63_read.specs.Tables.{IsTableOf}
@@ -35,6 +35,7 @@ use Rattle.lux_core.specs.Commands.{question_of, file_name, claim_name, marked_l
 use Rattle.lux_core.specs.Escapes.{CanEscape, IsEscapeAnswer}
 use Rattle.lux_core.specs.LampFiles.{LampFile, WasRead, WereRead, HasUnreadFile, IsUnreadFile, IsRefusedFile, file_at, nothing_read, tables_of}
 use Rattle.lux_core.specs.LightAnswers.{HasNoScene, HasHeavyRow, IsAsked, IsLightAnswer, IsNotServed, IsOfTables, IsSaidByScene, CanLight}
+use Rattle.lux_core.specs.PageAnswers.{CanPage, IsPageAnswer, IsPageStatus, page_name, page_question}
 use Rattle.lux_core.specs.Photometry.{IsFaultOfFile, IsPhotometryAnswer, IsTableOfFile, CanSum}
 use Rattle.lux_core.specs.RoomAnswers.{IsSaidOf, IsRoomAnswer, IsAbleOf}
 use Rattle.lux_core.specs.Runs.{Run, IsContent, longest_file}
@@ -52,7 +53,7 @@ use Rattle.lux_core.specs.declared.words.RoomQuestion.{RoomQuestion}
 use Rattle.lux_core.specs.declared.words.RoomQuestion.TheVariants as asks
 use Rattle.lux_core.specs.declared.words.Question.{Question}
 use Rattle.lux_core.specs.declared.words.Question.TheVariants as question
-use Rattle.lux_core.specs.declared.words.Spelling.TheVariants.{Lines, Records, Summary}
+use Rattle.lux_core.specs.declared.words.Spelling.TheVariants.{Lines, Records, Summary, Page}
 use Rattle.lux_core.specs.declared.words.Format.{Format}
 use Rattle.lux_core.specs.declared.words.Format.TheVariants.{Lm63, Eulumdat}
 use Rattle.lux_core.specs.declared.status.Status.{Status}
@@ -221,19 +222,22 @@ one_of_three Undecided = inr (inr refl)
 abbrev full : LightQuestion → Status → Type 0
 full asked given = IsFullStatus (question.File (file.Room (asks.Light asked))) given
 
-asked_full : (asked : LightQuestion) (tables : List Table) (room : Room) (given : Status) (text : List ℕ) → IsAsked asked tables room given text → full asked given
-asked_full (Report Lines) tables room given text (served, r) =
+asked_full : (asked : LightQuestion) (name : List ℕ) (tables : List Table) (room : Room) (given : Status) (text : List ℕ) → IsAsked asked name tables room given text → full asked given
+asked_full (Report Lines) name tables room given text (served, r) =
     let e = ends_of r.report in
     rw r.status_is (one_of_three (overall (verdicts_of room.limits e.average_lo e.average_hi e.uniformity)))
-asked_full (Report Records) tables room given text (served, r) = r.status_is
-asked_full (Report (Summary n)) tables room given text (served, r) = r.status_is
-asked_full Claim tables room given text (served, c) = c.status_is
+asked_full (Report Records) name tables room given text (served, r) = r.status_is
+asked_full (Report (Summary n)) name tables room given text (served, r) = r.status_is
+asked_full (Report Page) name tables room given text (served, r) =
+    let e = ends_of r.report in
+    rw r.status_is (one_of_three (overall (verdicts_of room.limits e.average_lo e.average_hi e.uniformity)))
+asked_full Claim name tables room given text (served, c) = c.status_is
 
-light_full : (asked : LightQuestion) (r : Run) (told : List (List ℕ × List ℕ)) (before : Option (List ℕ)) (room : Room) (given : Status) (text : List ℕ) → r.files ≡ Some told
-    → Stood r.faults.before r.faults.now → CanLight (Some told) room → IsLightAnswer asked r before room given text → full asked given
-light_full asked r told before room given text e s can (inl u) = absurd (has_no_unread r told room can.reads given text e s can.all can.read u)
-light_full asked r told before room given text e s can (inr o) = elim o.said [
-  | inl a ↦ asked_full asked (tables_of o.reads) room given text a
+light_full : (asked : LightQuestion) (name : List ℕ) (r : Run) (told : List (List ℕ × List ℕ)) (before : Option (List ℕ)) (room : Room) (given : Status) (text : List ℕ) → r.files ≡ Some told
+    → Stood r.faults.before r.faults.now → CanLight (Some told) room → IsLightAnswer asked name r before room given text → full asked given
+light_full asked name r told before room given text e s can (inl u) = absurd (has_no_unread r told room can.reads given text e s can.all can.read u)
+light_full asked name r told before room given text e s can (inr o) = elim o.said [
+  | inl a ↦ asked_full asked name (tables_of o.reads) room given text a
   | inr none ↦ absurd (served_by r told room o.reads given text e can o.lamp_files.all o.lamp_files.read none)
 ]
 
@@ -282,24 +286,24 @@ escape_full route limits marked r told before room given text e s can (inr (inr 
 abbrev full_of_room : RoomQuestion → Status → Type 0
 full_of_room asked given = IsFullStatus (question.File (file.Room asked)) given
 
-said_full : (asked : RoomQuestion) (r : Run) (told : List (List ℕ × List ℕ)) (bytes : List ℕ) (words : List (List ℕ)) (room : Room) (given : Status) (text : List ℕ) → r.files ≡ Some told
-    → Stood r.faults.before r.faults.now → IsAbleOf asked told words room → IsSaidOf asked r bytes words room given text → full_of_room asked given
-said_full (asks.Light asked) r told bytes words room given text e s can a = light_full asked r told (Some bytes) room given text e s can a
-said_full asks.Check r told bytes words room given text e s can a = check_full r told (Some bytes) room (claim_name words) given text e s can a
-said_full (asks.Escape route limits) r told bytes words room given text e s can a = escape_full route limits (marked_lamps words) r told (Some bytes) room given text e s can a
-said_full (asks.Sight p q) r told bytes words room given text e s can (ended, inl a) = a.status_is
-said_full (asks.Sight p q) r told bytes words room given text e s can (ended, inr a) = a.status_is
+said_full : (asked : RoomQuestion) (r : Run) (told : List (List ℕ × List ℕ)) (name bytes : List ℕ) (words : List (List ℕ)) (room : Room) (given : Status) (text : List ℕ) → r.files ≡ Some told
+    → Stood r.faults.before r.faults.now → IsAbleOf asked told words room → IsSaidOf asked r name bytes words room given text → full_of_room asked given
+said_full (asks.Light asked) r told name bytes words room given text e s can a = light_full asked name r told (Some bytes) room given text e s can a
+said_full asks.Check r told name bytes words room given text e s can a = check_full r told (Some bytes) room (claim_name words) given text e s can a
+said_full (asks.Escape route limits) r told name bytes words room given text e s can a = escape_full route limits (marked_lamps words) r told (Some bytes) room given text e s can a
+said_full (asks.Sight p q) r told name bytes words room given text e s can (ended, inl a) = a.status_is
+said_full (asks.Sight p q) r told name bytes words room given text e s can (ended, inr a) = a.status_is
 
-room_full : (asked : RoomQuestion) (r : Run) (told : List (List ℕ × List ℕ)) (bytes : List ℕ) (words : List (List ℕ)) (room : Room) (given : Status) (text : List ℕ) → r.files ≡ Some told
-    → Stood r.faults.before r.faults.now → room_of bytes ≡ Ok room → IsAbleOf asked told words room → IsRoomAnswer asked r bytes words given text → full_of_room asked given
-room_full asked r told bytes words room given text e s accepted able (inl f) = absurd (ok_or_fault (room_of bytes) room f.fault accepted f.refused)
-room_full asked r told bytes words room given text e s accepted able (inr o) =
+room_full : (asked : RoomQuestion) (r : Run) (told : List (List ℕ × List ℕ)) (name bytes : List ℕ) (words : List (List ℕ)) (room : Room) (given : Status) (text : List ℕ) → r.files ≡ Some told
+    → Stood r.faults.before r.faults.now → room_of bytes ≡ Ok room → IsAbleOf asked told words room → IsRoomAnswer asked r name bytes words given text → full_of_room asked given
+room_full asked r told name bytes words room given text e s accepted able (inl f) = absurd (ok_or_fault (room_of bytes) room f.fault accepted f.refused)
+room_full asked r told name bytes words room given text e s accepted able (inr o) =
     let same : o.room ≡ room = ok_same (room_of bytes) o.room room o.accepted accepted in
-    said_full asked r told bytes words room given text e s able (subst (λ (x : Room). IsSaidOf asked r bytes words x given text) same o.said)
+    said_full asked r told name bytes words room given text e s able (subst (λ (x : Room). IsSaidOf asked r name bytes words x given text) same o.said)
 
 bytes_full : (asked : FileQuestion) (r : Run) (told : List (List ℕ × List ℕ)) (name : List ℕ) (words : List (List ℕ)) (bytes : List ℕ) (given : Status) (text : List ℕ) → r.files ≡ Some told
     → Stood r.faults.before r.faults.now → IsAble asked told words bytes → IsBytesAnswer asked r name words bytes given text → IsFullStatus (question.File asked) given
-bytes_full (file.Room asked) r told name words bytes given text e s can a = room_full asked r told bytes words can.room given text e s can.accepted can.able a
+bytes_full (file.Room asked) r told name words bytes given text e s can a = room_full asked r told name bytes words can.room given text e s can.accepted can.able a
 bytes_full (file.Photometry format photometry.Summary) r told name words bytes given text e s can (ended, inl a) = a.status_is
 bytes_full (file.Photometry format (photometry.Flux lumens)) r told name words bytes given text e s can (ended, inl a) = a.status_is
 bytes_full (file.Photometry format asked) r told name words bytes given text e s can (ended, inr a) = absurd (no_fault format bytes a.fault can a.refused)
@@ -318,8 +322,8 @@ trial_full : (n : ℕ) (r : Run) (told : List (List ℕ × List ℕ)) (given : S
 trial_full n r told given text e s can (inl f) = absurd (ok_or_fault (room_of (room_text n)) can.room f.fault can.accepted f.refused)
 trial_full n r told given text e s can (inr o) =
     let same : o.room ≡ can.room = ok_same (room_of (room_text n)) o.room can.room o.accepted can.accepted in
-    light_full (Report (Summary n)) r told None can.room given text e s can.able
-    (subst (λ (x : Room). IsLightAnswer (Report (Summary n)) r None x given text) same o.said)
+    light_full (Report (Summary n)) [] r told None can.room given text e s can.able
+    (subst (λ (x : Room). IsLightAnswer (Report (Summary n)) [] r None x given text) same o.said)
 
 answer_full : (asked : Question) (words : List (List ℕ)) (r : Run) (told : List (List ℕ × List ℕ)) (given : Status) (text : List ℕ) → r.files ≡ Some told
     → Stood r.faults.before r.faults.now → CanTellOf asked told words → IsAnswerTo asked words r given text → IsFullStatus asked given
@@ -351,11 +355,34 @@ fault_or_not status.Missed = inr (λ e. cc)
 fault_or_not status.Undecided = inr (λ e. cc)
 fault_or_not status.NotShown = inr (λ e. cc)
 
+-- what is written has the status of the whole answer, where the sink takes it
+as_written : (Full : Status → Type 0) (given result : Status) (before now : ℕ) → (result ≢ status.WriteFault → result ≡ given)
+    → (result ≡ status.WriteFault → Rose before now) → Stood before now → Full given → Full result ⊎ (result ≡ status.Memory)
+as_written Full given result before now same rose out full = elim (fault_or_not result) [
+  | inl f ↦ absurd (let h = rose f in omega (arith, h, out.0, out.1))
+  | inr n ↦ inl (subst Full (sym (same n)) full)
+]
+
 pub complete_written : (words : List (List ℕ)) (r : Run) (given result : Status) (text : List ℕ) (before now : ℕ) (can : CanAnswer words r.files)
     → (result ≢ status.WriteFault → result ≡ given) → (result ≡ status.WriteFault → Rose before now) → Stood before now
     → IsAnswer words r given text → Stood r.faults.before r.faults.now
     → IsFullStatus can.asked result ⊎ (result ≡ status.Memory)
-complete_written words r given result text before now can same rose out answer stood = elim (fault_or_not result) [
-  | inl f ↦ absurd (let h = rose f in omega (arith, h, out.0, out.1))
-  | inr n ↦ inl (subst (λ (g : Status). IsFullStatus can.asked g) (sym (same n)) (full_where_possible words r given text can stood answer))
-]
+complete_written words r given result text before now can same rose out answer stood =
+    as_written (IsFullStatus can.asked) given result before now same rose out (full_where_possible words r given text can stood answer)
+
+-- ---- the page of a room
+
+true_or_false : (b : Bool) → b ≡ true → b ≡ false → ⊥
+true_or_false b e f = cc
+
+page_full : (words : List (List ℕ)) (r : Run) (given : Status) (text : List ℕ) → CanPage words r.files → Stood r.faults.before r.faults.now
+    → IsPageAnswer words r given text → IsPageStatus given
+page_full words r given text c s (inl u) = absurd (true_or_false _ c.one u.none)
+page_full words r given text c s (inr a) = file_full page_question r c.told (page_name words) words given text c.files_are s c.able a.answer
+
+pub complete_page : (words : List (List ℕ)) (r : Run) (given result : Status) (text : List ℕ) (before now : ℕ) → CanPage words r.files
+    → (result ≢ status.WriteFault → result ≡ given) → (result ≡ status.WriteFault → Rose before now) → Stood before now
+    → IsPageAnswer words r given text → Stood r.faults.before r.faults.now
+    → IsPageStatus result ⊎ (result ≡ status.Memory)
+complete_page words r given result text before now can same rose out answer stood =
+    as_written IsPageStatus given result before now same rose out (page_full words r given text can stood answer)

@@ -1,5 +1,5 @@
 -- An answer's status is never that of a text that couldn't be written.
-use Rattle.std.proofs.Common.{ℕ, ◌≡◌, ◌≢◌, ◌⊎◌, inl, inr, List, ◌∙◌, sym}
+use Rattle.std.proofs.Common.{ℕ, ◌≡◌, ◌≢◌, ◌⊎◌, inl, inr, List, [], ◌∙◌, sym}
 use Rattle.std.specs.Prelude.{Option, Some, None}
 use Rattle.escape_route.specs.declared.lines.RouteLimits.{RouteLimits}
 use Rattle.escape_route.specs.declared.route.Route.{Route}
@@ -8,6 +8,7 @@ use Rattle.limit_verdict.specs.declared.verdict.Verdict.{Verdict}
 use Rattle.limit_verdict.specs.declared.verdict.Verdict.TheVariants.{Met, Missed, Undecided}
 use Rattle.photo_table.specs.Table.{Table}
 use Rattle.report_form.specs.Judged.{ends_of}
+use Rattle.report_form.specs.declared.report.Report.{Report as RoomReport}
 use Rattle.room_layout.specs.declared.room.Room.{Room}
 use Rattle.lux_core.specs.Answers.{IsAnswerTo, IsBytesAnswer, IsFileAnswer}
 use Rattle.lux_core.specs.Claims.{IsCheckAnswer, IsClaimAnswer, IsSaidOfClaim}
@@ -18,7 +19,7 @@ use Rattle.lux_core.specs.Escapes.{IsEscapeAnswer}
 use Rattle.lux_core.specs.Photometry.{IsPhotometryAnswer}
 use Rattle.lux_core.specs.RoomAnswers.{IsRoomAnswer, IsSaidOf}
 use Rattle.lux_core.specs.Runs.{Run}
-use Rattle.lux_core.specs.Spellings.{IsReport, verdict_status}
+use Rattle.lux_core.specs.Spellings.{limits_status, verdict_status}
 use Rattle.lux_core.specs.Trials.{IsTrialAnswer}
 use Rattle.lux_core.specs.Untaken.{IsUntaken}
 use Rattle.lux_core.specs.declared.status.Status.{Status}
@@ -32,7 +33,7 @@ use Rattle.lux_core.specs.declared.words.Question.TheVariants as question
 use Rattle.lux_core.specs.declared.words.PhotometryQuestion.TheVariants as photometry
 use Rattle.lux_core.specs.declared.words.RoomQuestion.{RoomQuestion}
 use Rattle.lux_core.specs.declared.words.RoomQuestion.TheVariants as asks
-use Rattle.lux_core.specs.declared.words.Spelling.TheVariants.{Lines, Records, Summary}
+use Rattle.lux_core.specs.declared.words.Spelling.TheVariants.{Lines, Records, Summary, Page}
 
 -- it isn't that of a write fault
 abbrev IsWritten : Status → Type 0
@@ -55,18 +56,22 @@ verdict_written Met = λ f. cc
 verdict_written Missed = λ f. cc
 verdict_written Undecided = λ f. cc
 
+by_limits : (room : Room) (given : Status) (report : RoomReport) → given ≡ limits_status room.limits (ends_of report) → IsWritten given
+by_limits room given report is =
+    let e = ends_of report in
+    λ f. verdict_written (overall (verdicts_of room.limits e.average_lo e.average_hi e.uniformity)) (sym is ∙ f)
+
 untaken : (r : Run) (name : List ℕ) (given : Status) (text : List ℕ) → IsUntaken r name given text → IsWritten given
 untaken r name given text (inl a) = by_refused given a.status_is
 untaken r name given text (inr (inl l)) = by_refused given l.status_is
 untaken r name given text (inr (inr f)) = by_read_fault given f.status_is
 
-asked : (question : LightQuestion) (tables : List Table) (room : Room) (given : Status) (text : List ℕ) → IsAsked question tables room given text → IsWritten given
-asked (Report Lines) tables room given text (served, r) =
-    let e = ends_of r.report in
-    λ f. verdict_written (overall (verdicts_of room.limits e.average_lo e.average_hi e.uniformity)) (sym r.status_is ∙ f)
-asked (Report Records) tables room given text (served, r) = by_done given r.status_is
-asked (Report (Summary n)) tables room given text (served, r) = by_done given r.status_is
-asked Claim tables room given text (served, c) = by_done given c.status_is
+asked : (question : LightQuestion) (name : List ℕ) (tables : List Table) (room : Room) (given : Status) (text : List ℕ) → IsAsked question name tables room given text → IsWritten given
+asked (Report Lines) name tables room given text (served, r) = by_limits room given r.report r.status_is
+asked (Report Records) name tables room given text (served, r) = by_done given r.status_is
+asked (Report (Summary n)) name tables room given text (served, r) = by_done given r.status_is
+asked (Report Page) name tables room given text (served, r) = by_limits room given r.report r.status_is
+asked Claim name tables room given text (served, c) = by_done given c.status_is
 
 not_served : (tables : List Table) (room : Room) (given : Status) (text : List ℕ) → IsNotServed tables room given text → IsWritten given
 not_served tables room given text (inl n) = by_refused given n.status_is
@@ -78,10 +83,10 @@ unread r room given text h = elim h.unread [
   | inr f ↦ by_refused given f.refusal.status_is
 ]
 
-light : (question : LightQuestion) (r : Run) (before : Option (List ℕ)) (room : Room) (given : Status) (text : List ℕ) → IsLightAnswer question r before room given text → IsWritten given
-light question r before room given text (inl u) = unread r room given text u
-light question r before room given text (inr o) = elim o.said [
-  | inl a ↦ asked question (tables_of o.reads) room given text a
+light : (question : LightQuestion) (name : List ℕ) (r : Run) (before : Option (List ℕ)) (room : Room) (given : Status) (text : List ℕ) → IsLightAnswer question name r before room given text → IsWritten given
+light question name r before room given text (inl u) = unread r room given text u
+light question name r before room given text (inr o) = elim o.said [
+  | inl a ↦ asked question name (tables_of o.reads) room given text a
   | inr n ↦ not_served (tables_of o.reads) room given text n
 ]
 
@@ -105,31 +110,31 @@ escape route limits marked r before room given text (inl f) = by_refused given f
 escape route limits marked r before room given text (inr (inl u)) = unread r room given text u.unread
 escape route limits marked r before room given text (inr (inr o)) = let told = o.said in rw told.status_is (verdict_written told.verdict)
 
-said : (asked : RoomQuestion) (r : Run) (bytes : List ℕ) (words : List (List ℕ)) (room : Room) (given : Status) (text : List ℕ) → IsSaidOf asked r bytes words room given text → IsWritten given
-said (asks.Light asked) r bytes words room given text a = light asked r (Some bytes) room given text a
-said asks.Check r bytes words room given text a = check r (Some bytes) room (claim_name words) given text a
-said (asks.Escape route limits) r bytes words room given text a = escape route limits (marked_lamps words) r (Some bytes) room given text a
-said (asks.Sight p q) r bytes words room given text (ended, inl a) = by_done given a.status_is
-said (asks.Sight p q) r bytes words room given text (ended, inr a) = by_done given a.status_is
+said : (asked : RoomQuestion) (r : Run) (name bytes : List ℕ) (words : List (List ℕ)) (room : Room) (given : Status) (text : List ℕ) → IsSaidOf asked r name bytes words room given text → IsWritten given
+said (asks.Light asked) r name bytes words room given text a = light asked name r (Some bytes) room given text a
+said asks.Check r name bytes words room given text a = check r (Some bytes) room (claim_name words) given text a
+said (asks.Escape route limits) r name bytes words room given text a = escape route limits (marked_lamps words) r (Some bytes) room given text a
+said (asks.Sight p q) r name bytes words room given text (ended, inl a) = by_done given a.status_is
+said (asks.Sight p q) r name bytes words room given text (ended, inr a) = by_done given a.status_is
 
-room : (asked : RoomQuestion) (r : Run) (bytes : List ℕ) (words : List (List ℕ)) (given : Status) (text : List ℕ) → IsRoomAnswer asked r bytes words given text → IsWritten given
-room asked r bytes words given text (inl f) = by_refused given f.status_is
-room asked r bytes words given text (inr o) = said asked r bytes words o.room given text o.said
+room : (asked : RoomQuestion) (r : Run) (name bytes : List ℕ) (words : List (List ℕ)) (given : Status) (text : List ℕ) → IsRoomAnswer asked r name bytes words given text → IsWritten given
+room asked r name bytes words given text (inl f) = by_refused given f.status_is
+room asked r name bytes words given text (inr o) = said asked r name bytes words o.room given text o.said
 
 bytes_answer : (asked : FileQuestion) (r : Run) (name : List ℕ) (words : List (List ℕ)) (bytes : List ℕ) (given : Status) (text : List ℕ) → IsBytesAnswer asked r name words bytes given text → IsWritten given
-bytes_answer (file.Room asked) r name words bytes given text a = room asked r bytes words given text a
+bytes_answer (file.Room asked) r name words bytes given text a = room asked r name bytes words given text a
 bytes_answer (file.Photometry format photometry.Summary) r name words bytes given text (ended, inl a) = by_done given a.status_is
 bytes_answer (file.Photometry format (photometry.Flux lumens)) r name words bytes given text (ended, inl a) = by_done given a.status_is
 bytes_answer (file.Photometry format asked) r name words bytes given text (ended, inr a) = by_refused given a.status_is
 
-of_file : (asked : FileQuestion) (r : Run) (name : List ℕ) (words : List (List ℕ)) (given : Status) (text : List ℕ) → IsFileAnswer asked r name words given text → IsWritten given
-of_file asked r name words given text (inl u) = untaken r name given text u
-of_file asked r name words given text (inr o) = bytes_answer asked r name words o.bytes given text o.said
+pub file_written : (asked : FileQuestion) (r : Run) (name : List ℕ) (words : List (List ℕ)) (given : Status) (text : List ℕ) → IsFileAnswer asked r name words given text → given ≢ status.WriteFault
+file_written asked r name words given text (inl u) = untaken r name given text u
+file_written asked r name words given text (inr o) = bytes_answer asked r name words o.bytes given text o.said
 
 trial : (n : ℕ) (r : Run) (given : Status) (text : List ℕ) → IsTrialAnswer n r given text → IsWritten given
 trial n r given text (inl f) = by_refused given f.status_is
-trial n r given text (inr o) = light (Report (Summary n)) r None o.room given text o.said
+trial n r given text (inr o) = light (Report (Summary n)) [] r None o.room given text o.said
 
 pub answer_written : (asked : Question) (words : List (List ℕ)) (r : Run) (given : Status) (text : List ℕ) → IsAnswerTo asked words r given text → given ≢ status.WriteFault
-answer_written (question.File asked) words r given text a = of_file asked r (file_name words) words given text a
+answer_written (question.File asked) words r given text a = file_written asked r (file_name words) words given text a
 answer_written (question.Trial n) words r given text a = trial n r given text a

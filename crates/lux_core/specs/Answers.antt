@@ -15,12 +15,12 @@ use Rattle.lux_core.specs.declared.words.LightQuestion.TheVariants.{Report}
 use Rattle.lux_core.specs.declared.words.Question.{Question}
 use Rattle.lux_core.specs.declared.words.Question.TheVariants as question
 use Rattle.lux_core.specs.declared.words.RoomQuestion.TheVariants.{Light, Check, Escape}
-use Rattle.lux_core.specs.declared.words.Spelling.TheVariants.{Lines}
+use Rattle.lux_core.specs.declared.words.Spelling.TheVariants.{Lines, Page}
 
 -- ---- what the bytes of a file give; of a photometric file nothing is told by another file
 
 abbrev pub IsBytesAnswer : FileQuestion → Run → (name : List ℕ) → (words : List (List ℕ)) → (bytes : List ℕ) → Status → List ℕ → Type 0
-IsBytesAnswer (file.Room asked) r name words bytes given text = IsRoomAnswer asked r bytes words given text
+IsBytesAnswer (file.Room asked) r name words bytes given text = IsRoomAnswer asked r name bytes words given text
 IsBytesAnswer (file.Photometry format asked) r name words bytes given text = EndedWith r (Some bytes) × IsPhotometryAnswer format asked name bytes given text
 
 -- ---- what the name of a file gives
@@ -84,10 +84,11 @@ pub record CanAnswer (words : List (List ℕ)) (files : Option (List (List ℕ �
   pub files_are : files ≡ Some told
   pub able : CanTellOf asked told words
 
--- the status of a whole answer: that of the limits where a report has its lines or a route is asked for, that of the claim where one is checked,
+-- the status of a whole answer: that of the limits where a report has its lines or its page or a route is asked for, that of the claim where one is checked,
 -- else done
 abbrev pub IsFullStatus : Question → Status → Type 0
 IsFullStatus (question.File (file.Room (Light (Report Lines)))) given = (given ≡ status.Done) ⊎ (given ≡ status.Missed) ⊎ (given ≡ status.Undecided)
+IsFullStatus (question.File (file.Room (Light (Report Page)))) given = (given ≡ status.Done) ⊎ (given ≡ status.Missed) ⊎ (given ≡ status.Undecided)
 IsFullStatus (question.File (file.Room (Escape route limits))) given = (given ≡ status.Done) ⊎ (given ≡ status.Missed) ⊎ (given ≡ status.Undecided)
 IsFullStatus (question.File (file.Room Check)) given = (given ≡ status.Done) ⊎ (given ≡ status.NotShown)
 IsFullStatus _ given = given ≡ status.Done

@@ -1,5 +1,6 @@
 pub mod Trials
 pub mod Answers
+pub mod PageAnswers
 pub mod Photometry
 pub mod Untaken
 pub mod LampFiles

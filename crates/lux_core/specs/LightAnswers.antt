@@ -38,10 +38,10 @@ pub record IsCertificate (tables : List Table) (room : Room) (given : Status) (t
   pub holds : HoldLight tables room lower upper
   pub near : AreNearLight tables room lower upper
 
--- what is asked, of a room that is served
-abbrev pub IsAsked : LightQuestion → List Table → Room → Status → List ℕ → Type 0
-IsAsked (Report form) tables room given text = IsServed tables room × IsReport form tables room given text
-IsAsked Claim tables room given text = IsServed tables room × IsCertificate tables room given text
+-- what is asked, of a room that is served and whose file has this name
+abbrev pub IsAsked : LightQuestion → (name : List ℕ) → List Table → Room → Status → List ℕ → Type 0
+IsAsked (Report form) name tables room given text = IsServed tables room × IsReport form name tables room given text
+IsAsked Claim name tables room given text = IsServed tables room × IsCertificate tables room given text
 
 abbrev pub scene_fault_text : SceneFault → List ℕ
 scene_fault_text scene_fault.TotalIntensity = codes "1 TotalIntensity"
@@ -70,8 +70,8 @@ pub record HasHeavyRow (tables : List Table) (room : Room) (given : Status) (tex
 abbrev pub IsNotServed : List Table → Room → Status → List ℕ → Type 0
 IsNotServed tables room given text = HasNoScene tables room given text ⊎ HasHeavyRow tables room given text
 
-abbrev pub IsSaidByScene : LightQuestion → List Table → Room → Status → List ℕ → Type 0
-IsSaidByScene asked tables room given text = IsAsked asked tables room given text ⊎ IsNotServed tables room given text
+abbrev pub IsSaidByScene : LightQuestion → (name : List ℕ) → List Table → Room → Status → List ℕ → Type 0
+IsSaidByScene asked name tables room given text = IsAsked asked name tables room given text ⊎ IsNotServed tables room given text
 
 -- ---- by the files on the shelf
 
@@ -82,8 +82,8 @@ pub record IsOfTables (Said : List Table → Room → Status → List ℕ → Ty
   pub ended : EndedWith r (last_read before reads)
   pub said : Said (tables_of reads) room given text
 
-abbrev pub IsLightAnswer : LightQuestion → Run → (before : Option (List ℕ)) → Room → Status → List ℕ → Type 0
-IsLightAnswer asked r before room given text = HasUnreadFile r room.files given text ⊎ IsOfTables (IsSaidByScene asked) r before room given text
+abbrev pub IsLightAnswer : LightQuestion → (name : List ℕ) → Run → (before : Option (List ℕ)) → Room → Status → List ℕ → Type 0
+IsLightAnswer asked name r before room given text = HasUnreadFile r room.files given text ⊎ IsOfTables (IsSaidByScene asked name) r before room given text
 
 -- ---- where it has to be told
 

@@ -36,21 +36,21 @@ pub record IsBlocked (room : Room) (p q : Place) (given : Status) (text : List �
 abbrev pub IsSightAnswer : Place → Place → Room → Status → List ℕ → Type 0
 IsSightAnswer p q room given text = IsClear room p q given text ⊎ IsBlocked room p q given text
 
--- ---- what is answered to a question on an accepted room, whose file the bytes are; sight reads no other file
+-- ---- what is answered to a question on an accepted room, whose file has this name and these bytes; sight reads no other file
 
-abbrev pub IsSaidOf : RoomQuestion → Run → (bytes : List ℕ) → (words : List (List ℕ)) → Room → Status → List ℕ → Type 0
-IsSaidOf (Light asked) r bytes words room given text = IsLightAnswer asked r (Some bytes) room given text
-IsSaidOf Check r bytes words room given text = IsCheckAnswer r (Some bytes) room (claim_name words) given text
-IsSaidOf (Escape route limits) r bytes words room given text = IsEscapeAnswer route limits (marked_lamps words) r (Some bytes) room given text
-IsSaidOf (Sight p q) r bytes words room given text = EndedWith r (Some bytes) × IsSightAnswer (place_of p) (place_of q) room given text
+abbrev pub IsSaidOf : RoomQuestion → Run → (name bytes : List ℕ) → (words : List (List ℕ)) → Room → Status → List ℕ → Type 0
+IsSaidOf (Light asked) r name bytes words room given text = IsLightAnswer asked name r (Some bytes) room given text
+IsSaidOf Check r name bytes words room given text = IsCheckAnswer r (Some bytes) room (claim_name words) given text
+IsSaidOf (Escape route limits) r name bytes words room given text = IsEscapeAnswer route limits (marked_lamps words) r (Some bytes) room given text
+IsSaidOf (Sight p q) r name bytes words room given text = EndedWith r (Some bytes) × IsSightAnswer (place_of p) (place_of q) room given text
 
--- ---- what the bytes of a room file give; `words` are those of the command
+-- ---- what the bytes of a room file of this name give; `words` are those of the command
 
 -- the layout is accepted, and this is said of its room
-pub record IsOfRoom (asked : RoomQuestion) (r : Run) (bytes : List ℕ) (words : List (List ℕ)) (given : Status) (text : List ℕ) : Type 0 where
+pub record IsOfRoom (asked : RoomQuestion) (r : Run) (name bytes : List ℕ) (words : List (List ℕ)) (given : Status) (text : List ℕ) : Type 0 where
   pub room : Room
   pub accepted : room_of bytes ≡ Ok room
-  pub said : IsSaidOf asked r bytes words room given text
+  pub said : IsSaidOf asked r name bytes words room given text
 
 -- the layout is refused
 pub record IsRefusedLayout (r : Run) (last : Option (List ℕ)) (bytes : List ℕ) (given : Status) (text : List ℕ) : Type 0 where
@@ -61,8 +61,8 @@ pub record IsRefusedLayout (r : Run) (last : Option (List ℕ)) (bytes : List �
   pub no_want : fault ≢ room_fault.Memory
   pub text_is : text ≡ line (codes "refused room " ++ fault_text fault)
 
-abbrev pub IsRoomAnswer : RoomQuestion → Run → (bytes : List ℕ) → (words : List (List ℕ)) → Status → List ℕ → Type 0
-IsRoomAnswer asked r bytes words given text = IsRefusedLayout r (Some bytes) bytes given text ⊎ IsOfRoom asked r bytes words given text
+abbrev pub IsRoomAnswer : RoomQuestion → Run → (name bytes : List ℕ) → (words : List (List ℕ)) → Status → List ℕ → Type 0
+IsRoomAnswer asked r name bytes words given text = IsRefusedLayout r (Some bytes) bytes given text ⊎ IsOfRoom asked r name bytes words given text
 
 -- ---- where it has to be told
 

@@ -11,9 +11,11 @@ use Rattle.limit_verdict.specs.Verdicts.{verdicts_of, verdict_lines, overall}
 use Rattle.limit_verdict.specs.declared.verdict.Verdict.{Verdict}
 use Rattle.limit_verdict.specs.declared.verdict.Verdict.TheVariants.{Met, Missed, Undecided}
 use Rattle.photo_table.specs.Table.{Table}
+use Rattle.report_page.specs.Page.{IsPage}
 use Rattle.room_layout.specs.declared.room.Limits.{Limits}
 use Rattle.room_layout.specs.declared.room.Room.{Room}
 use Rattle.scene_system.specs.Scene.{patch_count}
+use Rattle.scene_system.specs.Tables.{AreTablesOf}
 use Rattle.lux_core.specs.declared.status.Status.{Status}
 use Rattle.lux_core.specs.declared.status.Status.TheVariants as status
 use Rattle.lux_core.specs.declared.words.Spelling.{Spelling}
@@ -34,10 +36,17 @@ abbrev pub in_summary : ℕ → Room → Report → List ℕ
 in_summary n room report =
     line (codes "trial " ++ decimal n ++ codes " patches " ++ decimal (patch_count room) ++ codes " points " ++ decimal (room.task.nx * room.task.ny)) ++ overall_text report
 
-abbrev pub said_in : Spelling → Room → Report → List ℕ
-said_in spelling.Lines room report = in_lines room report
-said_in spelling.Records room report = grid_bytes report
-said_in (spelling.Summary n) room report = in_summary n room report
+-- the page of the room file of this name, which sums up the tables of the lamps' files as the program keeps them
+pub record IsInPage (name : List ℕ) (tables : List Table) (room : Room) (report : Report) (text : List ℕ) : Type 0 where
+  pub photos : List Table
+  pub are : AreTablesOf photos tables
+  pub page : IsPage name (patch_count room) photos room report text
+
+abbrev pub IsSaidIn : Spelling → (name : List ℕ) → List Table → Room → Report → List ℕ → Type 0
+IsSaidIn spelling.Lines name tables room report text = text ≡ in_lines room report
+IsSaidIn spelling.Records name tables room report text = text ≡ grid_bytes report
+IsSaidIn (spelling.Summary n) name tables room report text = text ≡ in_summary n room report
+IsSaidIn spelling.Page name tables room report text = IsInPage name tables room report text
 
 -- ---- the status
 
@@ -50,16 +59,17 @@ verdict_status Undecided = status.Undecided
 abbrev pub limits_status : Limits → Ends → Status
 limits_status limits ends = verdict_status (overall (verdicts_of limits ends.average_lo ends.average_hi ends.uniformity))
 
--- only where the limits are printed does the status tell of them
+-- only where the limits are told does the status tell of them
 abbrev pub status_by : Spelling → Room → Report → Status
 status_by spelling.Lines room report = limits_status room.limits (ends_of report)
 status_by spelling.Records room report = status.Done
 status_by (spelling.Summary n) room report = status.Done
+status_by spelling.Page room report = limits_status room.limits (ends_of report)
 
--- ---- a right report of the room, so written
+-- ---- a right report of the room, so written; the room's file has this name
 
-pub record IsReport (form : Spelling) (tables : List Table) (room : Room) (given : Status) (text : List ℕ) : Type 0 where
+pub record IsReport (form : Spelling) (name : List ℕ) (tables : List Table) (room : Room) (given : Status) (text : List ℕ) : Type 0 where
   pub report : Report
   pub right : IsRight tables room report
-  pub text_is : text ≡ said_in form room report
+  pub said : IsSaidIn form name tables room report text
   pub status_is : given ≡ status_by form room report

@@ -36,7 +36,7 @@ fn reply_to_bytes<R: Threads + Sync, S: Shelf, G: Gate + Sync>(
 {
     match asked {
         FileQuestion::Room(asked) => {
-            let reply = reply_to_room(rt, alloc, asked, bytes, words, shelf, gate)?;
+            let reply = reply_to_room(rt, alloc, asked, name, bytes, words, shelf, gate)?;
             Ok(reply)
         }
         FileQuestion::Photometry(format, asked) => {

@@ -6,6 +6,8 @@ mod escape;
 mod file;
 mod lamp_files;
 mod light;
+mod output;
+mod page;
 mod photometry;
 mod program;
 mod reply;
@@ -20,6 +22,7 @@ mod trial;
 mod untaken;
 mod words;
 
-pub use program::run;
+pub use page::lux_page;
+pub use program::{run, run_page};
 pub use status::Status;
 pub use top::lux;

@@ -35,25 +35,29 @@ use std::thread::Threads;
 fn reply_of_report(
     alloc: Global,
     form: Spelling,
+    name: &str,
     room: &Room,
+    photos: &[PhotoTable],
     scene: &Scene,
     bounds: &Bounds,
 ) -> Result<Reply, Memory>
     requires accepted { IsAccepted room.now }
+    requires photos { length photos.now ≡ length room.now.files }
     requires formed { IsWellFormed (numbers scene.now) }
     requires weights { HasWeightsOf room.now (numbers scene.now) }
     requires none_heavy { NoneHeavy scene.now.system.rows }
     requires lower { IsLowerAnswer scene.now.system bounds.now.lower.items }
     requires upper { IsUpperAnswer scene.now.system bounds.now.upper.items }
     requires in_order { IsInOrder scene.now.system bounds.now.lower.items bounds.now.upper.items }
-    ensures { (tables : List Table) → AreExactTables room.now tables → IsSceneOf tables room.now (numbers scene.now) →
-        IfOk result (λ r. IsReport form tables room.now r.status r.text.items) }
+    ensures { (tables : List Table) → AreTablesOf photos.now tables → AreExactTables room.now tables → IsSceneOf tables room.now (numbers scene.now) →
+        IfOk result (λ r. IsReport form name.now tables room.now r.status r.text.items) }
 {
     values_are_points();
     report_is_right();
     let values = points(alloc, scene, bounds)?;
     let report = report(alloc, room.task.nx, values.as_slice())?;
-    let reply = reply_in(alloc, form, room, scene.patches.len(), &report)?;
+    let patches = scene.patches.len();
+    let reply = reply_in(alloc, form, name, room, photos, patches, &report)?;
     Ok(reply)
 }
 
@@ -82,24 +86,27 @@ fn reply_of_claim(
 fn reply_of_bounds(
     alloc: Global,
     asked: LightQuestion,
+    name: &str,
     room: &Room,
+    photos: &[PhotoTable],
     scene: &Scene,
     bounds: &Bounds,
 ) -> Result<Reply, Memory>
     requires accepted { IsAccepted room.now }
+    requires photos { length photos.now ≡ length room.now.files }
     requires formed { IsWellFormed (numbers scene.now) }
     requires weights { HasWeightsOf room.now (numbers scene.now) }
     requires none_heavy { NoneHeavy scene.now.system.rows }
     requires lower { IsLowerAnswer scene.now.system bounds.now.lower.items }
     requires upper { IsUpperAnswer scene.now.system bounds.now.upper.items }
     requires in_order { IsInOrder scene.now.system bounds.now.lower.items bounds.now.upper.items }
-    ensures { (tables : List Table) → AreExactTables room.now tables → IsWithinLimits tables room.now →
-        IsSceneOf tables room.now (numbers scene.now) → IfOk result (λ r. IsAsked asked tables room.now r.status r.text.items) }
+    ensures { (tables : List Table) → AreTablesOf photos.now tables → AreExactTables room.now tables → IsWithinLimits tables room.now →
+        IsSceneOf tables room.now (numbers scene.now) → IfOk result (λ r. IsAsked asked name.now tables room.now r.status r.text.items) }
 {
     none_is_shown_heavy();
     match asked {
         LightQuestion::Report(form) => {
-            let reply = reply_of_report(alloc, form, room, scene, bounds)?;
+            let reply = reply_of_report(alloc, form, name, room, photos, scene, bounds)?;
             Ok(reply)
         }
         LightQuestion::Claim => {
@@ -114,20 +121,23 @@ fn reply_of_scene<R: Threads + Sync, G: Gate + Sync>(
     rt: &R,
     alloc: Global,
     asked: LightQuestion,
+    name: &str,
     room: &Room,
+    photos: &[PhotoTable],
     scene: &Scene,
     gate: &G,
 ) -> Result<Reply, Memory>
     requires accepted { IsAccepted room.now }
+    requires photos { length photos.now ≡ length room.now.files }
     requires formed { IsWellFormed (numbers scene.now) }
     requires weights { HasWeightsOf room.now (numbers scene.now) }
-    ensures { (tables : List Table) → AreExactTables room.now tables → IsWithinLimits tables room.now →
-        IsSceneOf tables room.now (numbers scene.now) → IfOk result (λ r. IsSaidByScene asked tables room.now r.status r.text.items) }
+    ensures { (tables : List Table) → AreTablesOf photos.now tables → AreExactTables room.now tables → IsWithinLimits tables room.now →
+        IsSceneOf tables room.now (numbers scene.now) → IfOk result (λ r. IsSaidByScene asked name.now tables room.now r.status r.text.items) }
 {
     heavy_has_cause();
     match solve(rt, alloc, &scene.system, gate) {
         Ok(bounds) => {
-            let reply = reply_of_bounds(alloc, asked, room, scene, &bounds)?;
+            let reply = reply_of_bounds(alloc, asked, name, room, photos, scene, &bounds)?;
             Ok(reply)
         }
         Err(SolveFault::RowSum(heavy)) => {
@@ -143,17 +153,18 @@ fn reply_by_tables<R: Threads + Sync, G: Gate + Sync>(
     rt: &R,
     alloc: Global,
     asked: LightQuestion,
+    name: &str,
     room: &Room,
     photos: &[PhotoTable],
     gate: &G,
 ) -> Result<Reply, Memory>
     requires accepted { IsAccepted room.now }
     requires photos { length photos.now ≡ length room.now.files }
-    ensures { (tables : List Table) → AreTablesOf photos.now tables → IfOk result (λ r. IsSaidByScene asked tables room.now r.status r.text.items) }
+    ensures { (tables : List Table) → AreTablesOf photos.now tables → IfOk result (λ r. IsSaidByScene asked name.now tables room.now r.status r.text.items) }
 {
     match scene_of(rt, alloc, room, photos, gate) {
         Ok(scene) => {
-            let reply = reply_of_scene(rt, alloc, asked, room, &scene, gate)?;
+            let reply = reply_of_scene(rt, alloc, asked, name, room, photos, &scene, gate)?;
             Ok(reply)
         }
         Err(Halt::Said(reply)) => Ok(reply),
@@ -161,24 +172,27 @@ fn reply_by_tables<R: Threads + Sync, G: Gate + Sync>(
     }
 }
 
-/// What is asked of the light of a room, or why it isn't served. The files of its lamps are read first, each once, in order.
+/// What is asked of the light of a room, whose file has this name, or why it isn't served. The files of its lamps are read first, each
+/// once, in order.
 pub fn reply_of_light<R: Threads + Sync, S: Shelf, G: Gate + Sync>(
     rt: &R,
     alloc: Global,
     asked: LightQuestion,
+    name: &str,
     room: &Room,
     shelf: &mut S,
     gate: &G,
 ) -> Result<Reply, Memory>
     requires accepted { IsAccepted room.now }
     ensures files { S.files shelf.new ≡ S.files shelf.old }
-    ensures answered { IfOk result (λ r. (before : Option (List ℕ)) → IfSome before (λ bytes. S.taken shelf.old ≡ length bytes) → IsLightAnswer asked
+    ensures answered { IfOk result (λ r. (before : Option (List ℕ)) → IfSome before (λ bytes. S.taken shelf.old ≡ length bytes) → IsLightAnswer asked name.now
         (run (S.files shelf.old) (S.absences shelf.old) (S.absences shelf.new)
         (S.faults shelf.old) (S.faults shelf.new) (S.taken shelf.new)) before room.now r.status r.text.items) }
 {
     match read_lamp_files(alloc, room.files.as_slice(), shelf) {
         Ok(photos) => {
-            let reply = reply_by_tables(rt, alloc, asked, room, photos.as_slice(), gate)?;
+            let tables = photos.as_slice();
+            let reply = reply_by_tables(rt, alloc, asked, name, room, tables, gate)?;
             Ok(reply)
         }
         Err(Halt::Said(reply)) => Ok(reply),

@@ -1,5 +1,5 @@
 //! A program's run: the words of the command line, the files of the current folder and standard output in, and the exit status.
-use crate::{Status, lux};
+use crate::{Status, lux, lux_page};
 use fork_rows::OpenGate;
 use lux_io::{FolderShelf, OutSink};
 use std::alloc::{AllocError, AllocGlobal};
@@ -34,4 +34,14 @@ pub fn run(rt: &(impl Env + AllocGlobal + Files + Print + Threads + Sync)) -> St
     let mut shelf = FolderShelf::new(rt);
     let mut out = OutSink::new(rt);
     lux(rt, rt.alloc(), &words, &mut shelf, &mut out, &OpenGate)
+}
+
+/// Runs [`lux_page`] over the words of the command line, the files of the current folder and standard output.
+pub fn run_page(rt: &(impl Env + AllocGlobal + Files + Print + Threads + Sync)) -> Status {
+    let Ok(words) = words_of(rt) else {
+        return Status::Memory;
+    };
+    let mut shelf = FolderShelf::new(rt);
+    let mut out = OutSink::new(rt);
+    lux_page(rt, rt.alloc(), &words, &mut shelf, &mut out, &OpenGate)
 }

@@ -51,6 +51,7 @@ fn reply_of_room<R: Threads + Sync, S: Shelf, G: Gate + Sync>(
     rt: &R,
     alloc: Global,
     asked: RoomQuestion,
+    name: &str,
     room: &Room,
     words: &[String],
     shelf: &mut S,
@@ -61,11 +62,11 @@ fn reply_of_room<R: Threads + Sync, S: Shelf, G: Gate + Sync>(
     ensures files { S.files shelf.new ≡ S.files shelf.old }
     ensures answered { IfOk result (λ r. (bytes : List ℕ) → S.taken shelf.old ≡ length bytes → IsSaidOf asked
         (run (S.files shelf.old) (S.absences shelf.old) (S.absences shelf.new)
-        (S.faults shelf.old) (S.faults shelf.new) (S.taken shelf.new)) bytes (map string_bytes words.now) room.now r.status r.text.items) }
+        (S.faults shelf.old) (S.faults shelf.new) (S.taken shelf.new)) name.now bytes (map string_bytes words.now) room.now r.status r.text.items) }
 {
     match asked {
         RoomQuestion::Light(asked) => {
-            let reply = reply_of_light(rt, alloc, asked, room, shelf, gate)?;
+            let reply = reply_of_light(rt, alloc, asked, name, room, shelf, gate)?;
             Ok(reply)
         }
         RoomQuestion::Check => {
@@ -85,11 +86,12 @@ fn reply_of_room<R: Threads + Sync, S: Shelf, G: Gate + Sync>(
     }
 }
 
-/// The answer to the bytes of a room file, which were the last ones taken from the shelf. `words` are those of the command.
+/// The answer to the bytes of a room file of this name, which were the last ones taken from the shelf. `words` are those of the command.
 pub fn reply_to_room<R: Threads + Sync, S: Shelf, G: Gate + Sync>(
     rt: &R,
     alloc: Global,
     asked: RoomQuestion,
+    name: &str,
     bytes: &[u8],
     words: &[String],
     shelf: &mut S,
@@ -100,11 +102,11 @@ pub fn reply_to_room<R: Threads + Sync, S: Shelf, G: Gate + Sync>(
     ensures files { S.files shelf.new ≡ S.files shelf.old }
     ensures answered { IfOk result (λ r. IsRoomAnswer asked
         (run (S.files shelf.old) (S.absences shelf.old) (S.absences shelf.new)
-        (S.faults shelf.old) (S.faults shelf.new) (S.taken shelf.new)) bytes.now (map string_bytes words.now) r.status r.text.items) }
+        (S.faults shelf.old) (S.faults shelf.new) (S.taken shelf.new)) name.now bytes.now (map string_bytes words.now) r.status r.text.items) }
 {
     match read_room(alloc, bytes) {
         Ok(room) => {
-            let reply = reply_of_room(rt, alloc, asked, &room, words, shelf, gate)?;
+            let reply = reply_of_room(rt, alloc, asked, name, &room, words, shelf, gate)?;
             Ok(reply)
         }
         Err(RoomFault::Memory) => Err(Memory),

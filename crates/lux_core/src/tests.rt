@@ -3,6 +3,7 @@ mod grids;
 mod halves;
 mod limits;
 mod made_rooms;
+mod pages;
 mod panel;
 mod refusals;
 mod reports;

@@ -7,28 +7,16 @@ ghost use Rattle.lux_core.specs.Questions.{IsInRange};
 ghost use Rattle.lux_core.specs.Runs.{run};
 
 use crate::file::reply_to_file;
+use crate::output::written;
 use crate::reply::Reply;
 use crate::status::Status;
 use crate::trial::reply_to_trial;
 use crate::words::{Question, USAGE, file_name, question_of};
 use fork_rows::Gate;
 use fx_base::Memory;
-use lux_io::{Shelf, Sink, put_all};
+use lux_io::{Shelf, Sink};
 use std::alloc::Global;
 use std::thread::Threads;
-
-/// Writes a whole text; the status is the one given, or that the sink failed.
-fn written<O: Sink>(out: &mut O, status: Status, text: &[u8]) -> Status
-    requires { status ≢ Status.WriteFault }
-    ensures whole { result ≢ Status.WriteFault → (result ≡ status) × (O.written out.new ≡ with_bytes (O.written out.old) text.now) }
-    ensures cut_short { result ≡ Status.WriteFault → AddsPrefix (O.written out.old) (O.written out.new) text.now }
-    ensures rose { result ≡ Status.WriteFault → Rose (O.faults out.old) (O.faults out.new) }
-{
-    match put_all(out, text) {
-        Ok(()) => status,
-        Err(_) => Status::WriteFault,
-    }
-}
 
 /// The answer to what the words ask, made whole before anything is written.
 fn reply_to<R: Threads + Sync, S: Shelf, G: Gate + Sync>(
@@ -64,8 +52,8 @@ fn reply_to<R: Threads + Sync, S: Shelf, G: Gate + Sync>(
 /// values. `certify ROOM` writes bounds of the light of its patches as a claim, and `check ROOM CLAIM` checks such a claim without
 /// solving. `sight ROOM X Y Z X Y Z` writes whether a box of the room stands between two points, in mm, and which is the first;
 /// `escape ROOM X Y X Y MILLILUX RATIO LAMP ..` writes the least and the greatest direct light of some lamps along a line on the floor,
-/// and their ratio. `read FILE` and `read FILE SET` sum up a photometric file; `trial N` sums up the report of a made room. `words` are
-/// those after the program's name.
+/// and their ratio. `read FILE` and `read FILE SET` sum up a photometric file, and `flux FILE SET LUMENS` writes the flux of its light and
+/// whether that reaches so many lumens; `trial N` sums up the report of a made room. `words` are those after the program's name.
 ///
 /// The text is made whole before its first byte is written, and what it says is proved: see the definitions `IsAnswer` and
 /// `IsRight`.

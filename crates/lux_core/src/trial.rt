@@ -34,7 +34,7 @@ pub fn reply_to_trial<R: Threads + Sync, S: Shelf, G: Gate + Sync>(
     match read_room(alloc, bytes.as_slice()) {
         Ok(room) => {
             let asked = LightQuestion::Report(Spelling::Summary(number));
-            let reply = reply_of_light(rt, alloc, asked, &room, shelf, gate)?;
+            let reply = reply_of_light(rt, alloc, asked, "", &room, shelf, gate)?;
             Ok(reply)
         }
         Err(RoomFault::Memory) => Err(Memory),

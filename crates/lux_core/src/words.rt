@@ -51,6 +51,8 @@ pub enum Spelling {
     Records,
     /// As the summary of the room that this number makes: its counts, the average and the uniformity.
     Summary(u32),
+    /// As one page with plans of the room: the task points, the average, the uniformity, each limit with its verdict, and the room.
+    Page,
 }
 
 /// What is asked of the light of a room.
@@ -119,7 +121,7 @@ fn is_plain_text(bytes: &[u8]) -> bool
 }
 
 /// Whether a word may name a file: 1 to 4,096 bytes, no control character among them.
-fn is_file_name(word: &str) -> bool
+pub fn is_file_name(word: &str) -> bool
     ensures { result ≡ names_file word.now }
 {
     let bytes = word.as_bytes();

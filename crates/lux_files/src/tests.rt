@@ -8,6 +8,7 @@ mod lamp_files;
 mod lamps;
 mod luminaires;
 mod office;
+mod pages;
 mod reads;
 mod rooms;
 mod untold;

@@ -5,7 +5,7 @@ use Rattle.scene_system.specs.Assembled.{numbers}
 use Rattle.lux_core.proofs.light.reply_of_report.Goals as goal
 
 pub returns : goal.returns
-returns c = λ tables exact scene.
+returns c = λ tables rounded exact scene.
     let r = c.requires in
     let room = c.args.room.now in
     let values = c.in_ok-values.values.items in
@@ -17,6 +17,6 @@ returns c = λ tables exact scene.
     record {
       report = report;
       right = c.report_is_right.ensures tables room values report are some is;
-      text_is = c.in_ok-reply.ensures.text;
+      said = c.in_ok-reply.ensures.said tables rounded;
       status_is = c.in_ok-reply.ensures.status;
     }

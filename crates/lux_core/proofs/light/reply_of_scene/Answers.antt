@@ -5,7 +5,7 @@ use Rattle.scene_system.specs.RowSums.{in_thousandths}
 use Rattle.lux_core.proofs.light.reply_of_scene.Goals as goal
 
 pub returns-in_ok-text-in-Err-RowSum : goal.returns-in_ok-text-in-Err-RowSum
-returns-in_ok-text-in-Err-RowSum g c = λ tables exact within scene.
+returns-in_ok-text-in-Err-RowSum g c = λ tables are exact within scene.
     let r = c.requires in
     let heavy = c.in-Err-RowSum.heavy in
     inr (inr (record {
