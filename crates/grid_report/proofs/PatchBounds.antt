@@ -4,13 +4,12 @@ use Rattle.std.proofs.Common.{ℕ, ◌+◌, ◌*◌, ◌^◌, ◌<◌, ◌≤◌
 use Rattle.std.proofs.lemmas.Bool.{cases_lt}
 use Rattle.fx_base.specs.declared.Tick.{Tick}
 use Rattle.fx_base.specs.Fraction.{◌≤ᶠ◌, ◌<ᶠ◌, ◌+ᶠ◌, ◌*ᶠ◌, whole}
-use Rattle.fx_base.specs.Interval.{LiesIn}
 use Rattle.fx_base.specs.Rounded.{down_to, up_to}
 use Rattle.fx_base.specs.Units.{ticks}
 use Rattle.fx_base.proofs.Order.{le_refl_f, le_trans_f, le_lt_trans_f, lt_le_trans_f, add_le_f, add_lt_f, sub_le_f}
 use Rattle.interval_system.specs.Equations.{RowsBelowOne}
 use Rattle.interval_system.specs.Radiosity.{Light, IsLightOf}
-use Rattle.interval_system.specs.System.{NoneHeavy, weight_at, low_weight, high_weight, low_direct, high_direct}
+use Rattle.interval_system.specs.System.{NoneHeavy, low_weight, high_weight, low_direct, high_direct}
 use Rattle.interval_system.specs.Ticks.{tick_at}
 use Rattle.interval_system.specs.Whole.{total}
 use Rattle.radiosity_solve.specs.Bounds.{IsLowerAnswer, IsUpperAnswer, ticks_solution, ten_thousandth}
@@ -21,8 +20,9 @@ use Rattle.room_layout.specs.Accepted.{IsAccepted}
 use Rattle.room_layout.specs.declared.room.Room.{Room}
 use Rattle.photo_table.specs.Table.{Table}
 use Rattle.scene_system.specs.Assembled.{Numbers, IsSceneOf, IsWellFormed}
-use Rattle.scene_system.specs.Scene.{patch_count, patch_place, patch_face, radiosity, loose_radiosity}
-use Rattle.scene_system.proofs.Rows.{rows_below, rows_are, weight_close}
+use Rattle.scene_system.specs.Scene.{patch_count, radiosity, loose_radiosity}
+use Rattle.scene_system.proofs.Composed.{patch_weight_close}
+use Rattle.scene_system.proofs.Rows.{rows_below, rows_are}
 use Rattle.grid_report.specs.BoundsLaws.{BoundsHoldLight, ShownHoldsLight, UnshownHasCause}
 use Rattle.grid_report.specs.PatchBounds.{low_sum, high_sum, HoldLight, AreNearLight}
 use Rattle.scene_system.proofs.Near.{lower_is, upper_is}
@@ -38,12 +38,6 @@ record IsLightScene (tables : List Table) (room : Room) (s : Numbers) : Type 0 w
 
 rows : (tables : List Table) (room : Room) (s : Numbers) → IsLightScene tables room s → length s.system.rows ≡ patch_count room
 rows tables room s b = rows_are room s b.formed b.scene.weights
-
--- its weights lie within the loose coefficients
-close : (n : ℕ) (tables : List Table) (room : Room) (s : Numbers) (i j : ℕ) → IsSceneOf tables room s → i < patch_count room → j < patch_count room
-    → LiesIn (record { lo = ticks (low_weight s.system i j); hi = ticks (high_weight s.system i j) }) ((loose_radiosity n tables room).patches.coefficient i j)
-close n tables room s i j scene k l =
-    weight_close n room (patch_place room i) (patch_face room i) j (weight_at s.system i j) (scene.weights.patch_weights i j k l)
 
 -- ---- bounds that the system shows meet the exact light
 
@@ -99,7 +93,7 @@ lower_near tables room s lower n i light b answer deep is inside =
     (lower_is (loose_radiosity n tables room) light is ((rows_below tables room s n b.accepted b.formed b.scene.weights b.light deep).1) i inside)
     (lower_within (patch_count room) (λ i j. ((loose_radiosity n tables room).patches.coefficient i j).lo) (λ i. ((loose_radiosity n tables room).patches.direct i).lo)
     (low_weight s.system) (low_direct s.system) (tick_at lower) ten_thousandth (low_rows tables room s b)
-    (λ i j k l. (close n tables room s i j b.scene k l).lower) (λ i k. ((b.scene.lights i k).near n).lower)
+    (λ i j k l. (patch_weight_close n tables room s i j b.scene k l).lower) (λ i k. ((b.scene.lights i k).near n).lower)
     (subst (λ (m : ℕ). (i : ℕ) → i < m → ticks_solution m (low_weight s.system) (low_direct s.system) i ≤ᶠ (ticks (tick_at lower i) +ᶠ ten_thousandth))
     (rows tables room s b) answer.near) i inside)
 
@@ -111,7 +105,7 @@ upper_near tables room s upper n i light b answer deep is inside =
     le_trans_f
     (upper_within (patch_count room) (λ i j. ((loose_radiosity n tables room).patches.coefficient i j).hi) (λ i. ((loose_radiosity n tables room).patches.direct i).hi)
     (high_weight s.system) (high_direct s.system) (tick_at upper) ten_thousandth below.upper
-    (λ i j k l. (close n tables room s i j b.scene k l).upper) (λ i k. ((b.scene.lights i k).near n).upper)
+    (λ i j k l. (patch_weight_close n tables room s i j b.scene k l).upper) (λ i k. ((b.scene.lights i k).near n).upper)
     (subst (λ (m : ℕ). (i : ℕ) → i < m → ticks (tick_at upper i) ≤ᶠ (ticks_solution m (high_weight s.system) (high_direct s.system) i +ᶠ ten_thousandth))
     (rows tables room s b) answer.near) i inside)
     (add_le_f (upper_is (loose_radiosity n tables room) light is below i inside) (le_refl_f ten_thousandth))
@@ -157,7 +151,7 @@ lower_past n tables room s lower i b inside past =
     le_lt_trans_f
     (lower_sum_near (patch_count room) (low_direct s.system i) ((loose_radiosity n tables room).patches.direct i).lo (low_weight s.system i) (tick_at lower)
     (λ j. ((loose_radiosity n tables room).patches.coefficient i j).lo) (λ j. ticks (tick_at lower j))
-    ((b.scene.lights i inside).near n).lower (λ j l. (close n tables room s i j b.scene inside l).lower) (λ j l. le_refl_f (ticks (tick_at lower j))))
+    ((b.scene.lights i inside).near n).lower (λ j l. (patch_weight_close n tables room s i j b.scene inside l).lower) (λ j l. le_refl_f (ticks (tick_at lower j))))
     (add_lt_f (ticks_less (given (patch_count room)) (tick_at lower i) (subst (λ (m : ℕ). given m < tick_at lower i) (rows tables room s b) past))
     (rounding (patch_count room)))
 
@@ -173,7 +167,7 @@ upper_past n tables room s upper i b inside past =
     (le_trans_f
     (upper_sum_near (patch_count room) (high_direct s.system i) ((loose_radiosity n tables room).patches.direct i).hi (high_weight s.system i) (tick_at upper)
     (λ j. ((loose_radiosity n tables room).patches.coefficient i j).hi) (λ j. ticks (tick_at upper j))
-    ((b.scene.lights i inside).near n).upper (λ j l. (close n tables room s i j b.scene inside l).upper) (λ j l. le_refl_f (ticks (tick_at upper j))))
+    ((b.scene.lights i inside).near n).upper (λ j l. (patch_weight_close n tables room s i j b.scene inside l).upper) (λ j l. le_refl_f (ticks (tick_at upper j))))
     (add_le_f (le_refl_f (high_sum (loose_radiosity n tables room).patches upper i)) (rounding (patch_count room))))
 
 pub unshown_has_cause : UnshownHasCause

@@ -85,7 +85,7 @@ low_rows tables room s lower upper b = record {
 
 -- ---- weights and spans within the loose numbers
 
-patch_weight_close : (n : ℕ) (tables : List Table) (room : Room) (s : Numbers) (i j : ℕ) → IsSceneOf tables room s → i < patch_count room → j < patch_count room
+pub patch_weight_close : (n : ℕ) (tables : List Table) (room : Room) (s : Numbers) (i j : ℕ) → IsSceneOf tables room s → i < patch_count room → j < patch_count room
     → LiesIn (record { lo = ticks (low_weight s.system i j); hi = ticks (high_weight s.system i j) }) ((loose_radiosity n tables room).patches.coefficient i j)
 patch_weight_close n tables room s i j scene k l =
     weight_close n room (patch_place room i) (patch_face room i) j (weight_at s.system i j) (scene.weights.patch_weights i j k l)
