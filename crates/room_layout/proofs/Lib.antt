@@ -12,3 +12,4 @@ pub mod FilesAsked
 pub mod FilesTests
 pub mod Reordered
 pub mod ReorderedTests
+pub mod Selected

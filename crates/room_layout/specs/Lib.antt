@@ -10,4 +10,6 @@ pub mod Accepted
 pub mod FaultText
 pub mod FaultTextTests
 pub mod Files
+pub mod Kept
+mod KeptTests
 pub mod Laws

@@ -1,4 +1,5 @@
 //! Laws of the layout: each function's clause is the law, and the function does nothing.
+ghost use Rattle.room_layout.specs.Kept.{KeepsAccepted};
 ghost use Rattle.room_layout.specs.Laws.{GivesAccepted, GivesFiles, IgnoresOrder};
 
 /// A room that the layout gives is within every range and limit.
@@ -15,4 +16,9 @@ pub fn gives_files()
 /// Documents that are the same but for the order of their keys, at every level, give the same answer.
 pub fn ignores_order()
     ensures { IgnoresOrder }
+{}
+
+/// With some of its lamps an accepted room is still accepted.
+pub fn keeps_accepted()
+    ensures { KeepsAccepted }
 {}

@@ -12,6 +12,7 @@ mod parts;
 mod position;
 mod read;
 mod room;
+mod selection;
 mod sizes;
 #[cfg(test)]
 mod tests;

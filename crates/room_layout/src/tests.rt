@@ -5,6 +5,7 @@ use std::test::Fail;
 
 mod edits;
 mod places;
+mod selection;
 
 use edits::{EDITS, EVERY_KEY};
 
