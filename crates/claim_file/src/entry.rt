@@ -17,8 +17,9 @@ pub(crate) struct Entry {
     pub(crate) upper: Tick,
 }
 
-/// The number in one field of a record, and 2^90 + 1 in place of a greater one.
-fn number_in(row: &ByteRecord, i: usize) -> Option<u128>
+/// The number in one field of a record, counted from 0, and 2^90 + 1 in place of a greater one. None where there is no such field or it
+/// isn't written in decimal digits, without a zero before another digit.
+pub fn number_in(row: &ByteRecord, i: usize) -> Option<u128>
     ensures { result ≡ option_map capped (number_in (fields_of row.now) i) }
 {
     match row.get(i) {

@@ -3,6 +3,7 @@ ghost use Rattle.std.specs.Prelude.{◌≡◌, IfOk, Some, string_bytes};
 ghost use Rattle.claim_file.specs.declared.fault.ClaimFault.TheVariants.{Memory};
 ghost use Rattle.claim_file.specs.FaultText.{fault_text};
 
+use fx_base::Memory as NoMemory;
 use std::alloc::{AllocError, AllocFailed, Global};
 use std::fmt;
 
@@ -34,7 +35,7 @@ impl fmt::Display for ClaimFault {
 
 impl ClaimFault {
     /// The fault's number and name, and where it has one its record. Want of memory is no refusal and has no number.
-    pub fn text(&self, alloc: Global) -> Result<String, fx_base::Memory>
+    pub fn text(&self, alloc: Global) -> Result<String, NoMemory>
         ensures { IfOk result (λ s. string_bytes s ≡ fault_text self.now) }
     {
         let text = format!(in alloc; "{self}")?;
@@ -54,6 +55,14 @@ impl<T: Drop> From<AllocFailed<T>> for ClaimFault {
     ghost from_gives = { λ _ e. e ≡ Memory };
 
     fn from(_failed: AllocFailed<T>) -> ClaimFault {
+        ClaimFault::Memory
+    }
+}
+
+impl From<NoMemory> for ClaimFault {
+    ghost from_gives = { λ _ e. e ≡ Memory };
+
+    fn from(_error: NoMemory) -> ClaimFault {
         ClaimFault::Memory
     }
 }

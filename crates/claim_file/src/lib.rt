@@ -11,6 +11,8 @@ mod rows;
 mod tests;
 mod write;
 
+pub use entry::number_in;
 pub use fault::ClaimFault;
 pub use read::read_claim;
+pub use rows::{Taken, take_record};
 pub use write::claim_text;
