@@ -20,6 +20,7 @@ use Rattle.lux_core.specs.declared.reply.Halt.{Halt}
 use Rattle.lux_core.specs.declared.reply.Halt.TheVariants as halt
 use Rattle.lux_core.specs.Photometry.{IsReadAs, IsTableOfFile}
 use Rattle.lux_core.specs.Claims.{IsClaimAnswer, IsOfClaim}
+use Rattle.lux_core.specs.Dims.{IsPlanAnswer, IsOfDim}
 use Rattle.lux_core.specs.LightAnswers.{IsOfTables, IsServed}
 use Rattle.room_layout.specs.declared.room.Room.{Room}
 use Rattle.lux_core.specs.Runs.{Run, HasStood, run, longest_file}
@@ -159,6 +160,15 @@ of_claim r told taken_before taken_now photos room name given text h e said = re
   lamp_files = record { all = h.size; read = rw (← e) h.read };
   served = (said (tables_of h.reads) h.are).0;
   said = (said (tables_of h.reads) h.are).1;
+}
+
+pub of_dim : (least : ℕ) (r : Run) (told : Told) (taken_before taken_now : ℕ) (photos : List Table) (room : Room) (name : List ℕ) (given : Status) (text : List ℕ)
+    → HasRead told room.files taken_before taken_now (length room.files) photos → told ≡ r.files
+    → ((tables : List Table) → AreTablesOf photos tables → IsPlanAnswer least r tables room name given text) → IsOfDim least r room name given text
+of_dim least r told taken_before taken_now photos room name given text h e said = record {
+  reads = h.reads;
+  lamp_files = record { all = h.size; read = rw (← e) h.read };
+  said = said (tables_of h.reads) h.are;
 }
 
 -- the lamps of an accepted room shine by as many tables as it has files

@@ -6,3 +6,4 @@ pub mod LampLists
 pub mod Statuses
 pub mod Luminaires
 pub mod Marks
+pub mod Served

@@ -1,6 +1,7 @@
 -- An answer's status is never that of a text that couldn't be written.
 use Rattle.std.proofs.Common.{ℕ, ◌≡◌, ◌≢◌, ◌⊎◌, inl, inr, List, [], ◌∙◌, sym}
 use Rattle.std.specs.Prelude.{Option, Some, None}
+use Rattle.dimming_plan.specs.declared.entry.PlanLamp.{PlanLamp}
 use Rattle.escape_route.specs.declared.lines.RouteLimits.{RouteLimits}
 use Rattle.escape_route.specs.declared.route.Route.{Route}
 use Rattle.limit_verdict.specs.Verdicts.{verdicts_of, overall}
@@ -14,7 +15,8 @@ use Rattle.lux_core.specs.Answers.{IsAnswerTo, IsBytesAnswer, IsFileAnswer}
 use Rattle.lux_core.specs.Claims.{IsCheckAnswer, IsClaimAnswer, IsSaidOfClaim}
 use Rattle.lux_core.specs.LampFiles.{HasUnreadFile, tables_of}
 use Rattle.lux_core.specs.LightAnswers.{IsAsked, IsLightAnswer, IsNotServed}
-use Rattle.lux_core.specs.Commands.{file_name, claim_name, marked_lamps}
+use Rattle.lux_core.specs.Commands.{file_name, second_name, marked_lamps}
+use Rattle.lux_core.specs.Dims.{IsDimAnswer, IsPlanAnswer, IsSaidByPlan, IsSaidOfPlan}
 use Rattle.lux_core.specs.Escapes.{IsEscapeAnswer}
 use Rattle.lux_core.specs.Photometry.{IsPhotometryAnswer}
 use Rattle.lux_core.specs.RoomAnswers.{IsRoomAnswer, IsSaidOf}
@@ -104,6 +106,22 @@ check r before room name given text (inl u) = unread r room given text u
 check r before room name given text (inr (inl o)) = not_served (tables_of o.reads) room given text o.said
 check r before room name given text (inr (inr o)) = claim r (tables_of o.reads) room name given text o.said
 
+by_plan : (least : ℕ) (tables : List Table) (room : Room) (plan : List PlanLamp) (given : Status) (text : List ℕ) → IsSaidByPlan least tables room plan given text → IsWritten given
+by_plan least tables room plan given text (inl n) = not_served tables room given text n
+by_plan least tables room plan given text (inr t) = by_done given t.status_is
+
+said_of_plan : (least : ℕ) (tables : List Table) (room : Room) (bytes : List ℕ) (given : Status) (text : List ℕ) → IsSaidOfPlan least tables room bytes given text → IsWritten given
+said_of_plan least tables room bytes given text (inl f) = by_refused given f.status_is
+said_of_plan least tables room bytes given text (inr o) = by_plan least tables room o.plan given text o.said
+
+plan : (least : ℕ) (r : Run) (tables : List Table) (room : Room) (name : List ℕ) (given : Status) (text : List ℕ) → IsPlanAnswer least r tables room name given text → IsWritten given
+plan least r tables room name given text (inl u) = untaken r name given text u
+plan least r tables room name given text (inr o) = said_of_plan least tables room o.bytes given text o.said
+
+dim : (least : ℕ) (r : Run) (room : Room) (name : List ℕ) (given : Status) (text : List ℕ) → IsDimAnswer least r room name given text → IsWritten given
+dim least r room name given text (inl u) = unread r room given text u
+dim least r room name given text (inr o) = plan least r (tables_of o.reads) room name given text o.said
+
 escape : (route : Route) (limits : RouteLimits) (marked : List ℕ) (r : Run) (before : Option (List ℕ)) (room : Room) (given : Status) (text : List ℕ)
     → IsEscapeAnswer route limits marked r before room given text → IsWritten given
 escape route limits marked r before room given text (inl f) = by_refused given f.status_is
@@ -112,7 +130,8 @@ escape route limits marked r before room given text (inr (inr o)) = let told = o
 
 said : (asked : RoomQuestion) (r : Run) (name bytes : List ℕ) (words : List (List ℕ)) (room : Room) (given : Status) (text : List ℕ) → IsSaidOf asked r name bytes words room given text → IsWritten given
 said (asks.Light asked) r name bytes words room given text a = light asked name r (Some bytes) room given text a
-said asks.Check r name bytes words room given text a = check r (Some bytes) room (claim_name words) given text a
+said asks.Check r name bytes words room given text a = check r (Some bytes) room (second_name words) given text a
+said (asks.Dim least) r name bytes words room given text a = dim least r room (second_name words) given text a
 said (asks.Escape route limits) r name bytes words room given text a = escape route limits (marked_lamps words) r (Some bytes) room given text a
 said (asks.Sight p q) r name bytes words room given text (ended, inl a) = by_done given a.status_is
 said (asks.Sight p q) r name bytes words room given text (ended, inr a) = by_done given a.status_is

@@ -5,6 +5,8 @@ use Rattle.std.proofs.Common.{lit≤, inl, inr}
 use Rattle.decimal_text.specs.Decimals.{thousandths}
 use Rattle.decimal_text.specs.Lines.{line}
 use Rattle.room_layout.specs.Place.{point_of}
+use Rattle.dimming_plan.specs.FaultText.{fault_text}
+use Rattle.dimming_plan.specs.declared.fault.PlanFault.TheVariants as plan_fault
 use Rattle.scene_system.specs.declared.fault.SceneFault.TheVariants as scene_fault
 use Rattle.escape_route.specs.declared.route.RouteFault.TheVariants as route_fault
 use Rattle.lux_core.specs.Answers.{IsAnswer}
@@ -13,14 +15,14 @@ use Rattle.lux_core.specs.LightAnswers.{scene_fault_text}
 use Rattle.lux_core.specs.Spellings.{limits_status}
 use Rattle.lux_core.specs.Runs.{Run, run}
 use Rattle.lux_core.specs.Codes.{status_code}
-use Rattle.lux_core.specs.Commands.{names_file, number_after, coordinate, are_rising, question_of, file_name, claim_name, marked_lamps, names_lm63, usage_line}
+use Rattle.lux_core.specs.Commands.{names_file, number_after, coordinate, are_rising, question_of, file_name, second_name, marked_lamps, names_lm63, usage_line}
 use Rattle.lux_core.specs.declared.status.Status.TheVariants as status
 use Rattle.lux_core.specs.declared.words.FileQuestion.TheVariants as file
 use Rattle.lux_core.specs.declared.words.LightQuestion.TheVariants.{Report, Claim}
 use Rattle.lux_core.specs.declared.words.Question.TheVariants as question
 use Rattle.lux_core.specs.declared.words.Format.TheVariants.{Lm63, Eulumdat}
 use Rattle.lux_core.specs.declared.words.PhotometryQuestion.TheVariants as photometry
-use Rattle.lux_core.specs.declared.words.RoomQuestion.TheVariants.{Light, Check, Sight, Escape}
+use Rattle.lux_core.specs.declared.words.RoomQuestion.TheVariants.{Light, Check, Dim, Sight, Escape}
 use Rattle.lux_core.specs.declared.words.Spelling.TheVariants.{Lines, Records}
 
 -- ---- numbers
@@ -193,11 +195,28 @@ asks_for_a_claim = refl
 asks_to_check : question_of (codes "check" ∷ codes "room.toml" ∷ codes "claim.csv" ∷ []) ≡ Some (question.File (file.Room Check))
 asks_to_check = refl
 
-name_of_the_claim : claim_name (codes "check" ∷ codes "room.toml" ∷ codes "claim.csv" ∷ []) ≡ codes "claim.csv"
+name_of_the_claim : second_name (codes "check" ∷ codes "room.toml" ∷ codes "claim.csv" ∷ []) ≡ codes "claim.csv"
 name_of_the_claim = refl
 
 claim_without_a_name : question_of (codes "check" ∷ codes "room.toml" ∷ [] ∷ []) ≡ None
 claim_without_a_name = refl
+
+asks_for_a_plan : question_of (codes "dim" ∷ codes "room.toml" ∷ codes "plan.csv" ∷ codes "1000000000" ∷ []) ≡ Some (question.File (file.Room (Dim 1000000000)))
+unfolding number_after
+asks_for_a_plan = refl
+
+name_of_the_plan : second_name (codes "dim" ∷ codes "room.toml" ∷ codes "plan.csv" ∷ codes "0" ∷ []) ≡ codes "plan.csv"
+name_of_the_plan = refl
+
+plan_for_too_much_light : question_of (codes "dim" ∷ codes "room.toml" ∷ codes "plan.csv" ∷ codes "1000000001" ∷ []) ≡ None
+unfolding number_after
+plan_for_too_much_light = refl
+
+plan_for_no_light_asked : question_of (codes "dim" ∷ codes "room.toml" ∷ codes "plan.csv" ∷ []) ≡ None
+plan_for_no_light_asked = refl
+
+plan_without_a_name : question_of (codes "dim" ∷ codes "room.toml" ∷ [] ∷ codes "0" ∷ []) ≡ None
+plan_without_a_name = refl
 
 asks_for_a_trial : question_of (codes "trial" ∷ codes "40" ∷ []) ≡ Some (question.Trial 40)
 unfolding number_after
@@ -236,6 +255,9 @@ missing_lamp = refl
 heavy_row : line (codes "refused rows 1 RowSum " ++ decimal 0 ++ codes " " ++ thousandths 1140) ≡ codes "refused rows 1 RowSum 0 1.140\n"
 unfolding digits
 heavy_row = refl
+
+plan_of_one_lamp_for_two : line (codes "refused plan " ++ fault_text plan_fault.Count) ≡ codes "refused plan 2 Count\n"
+plan_of_one_lamp_for_two = refl
 
 missed_code : status_code status.Missed ≡ 10
 missed_code = refl

@@ -15,7 +15,7 @@ use Rattle.lux_core.specs.declared.words.FileQuestion.TheVariants as file
 use Rattle.lux_core.specs.declared.words.LightQuestion.{LightQuestion}
 use Rattle.lux_core.specs.declared.words.LightQuestion.TheVariants.{Report, Claim}
 use Rattle.lux_core.specs.declared.words.PhotometryQuestion.TheVariants as photometry
-use Rattle.lux_core.specs.declared.words.RoomQuestion.TheVariants.{Light, Check, Sight, Escape}
+use Rattle.lux_core.specs.declared.words.RoomQuestion.TheVariants.{Light, Check, Dim, Sight, Escape}
 use Rattle.lux_core.specs.declared.words.Spelling.TheVariants.{Lines, Records}
 
 -- ---- the names of files
@@ -60,7 +60,7 @@ lamp_set word = number_within 1 20 word
 abbrev pub lumens : List ℕ → Option ℕ
 lumens word = number_within 0 1000000 word
 
--- a light in thousandths of a lux, and a ratio, that are asked of a route
+-- a light in thousandths of a lux, and a ratio
 abbrev pub millilux : List ℕ → Option ℕ
 millilux word = number_within 0 1000000000 word
 
@@ -171,6 +171,11 @@ light_of words = option_map (λ asked. question.File (file.Room (Light asked))) 
 abbrev pub check_of : List (List ℕ) → Option Question
 check_of words = if is_command (codes "check") words && names_file (slice_index_or words 2 []) then Some (question.File (file.Room Check)) else None
 
+-- `dim ROOM PLAN MILLILUX`
+abbrev pub dim_of : List (List ℕ) → Option Question
+dim_of words =
+    if names_file (slice_index_or words 2 []) then option_map (λ least. question.File (file.Room (Dim least))) (millilux (slice_index_or words 3 [])) else None
+
 -- what `sight ROOM X Y Z X Y Z` asks
 abbrev pub sight_of : List (List ℕ) → Option Question
 sight_of words =
@@ -184,7 +189,8 @@ asked_of words =
     else (if length words == 2 then light_of words
     else (if length words == 3 then check_of words
     else (if length words == 4 && is_command (codes "flux") words then flux_of words
-    else (if length words == 8 && is_command (codes "sight") words then sight_of words else None)))))
+    else (if length words == 4 && is_command (codes "dim") words then dim_of words
+    else (if length words == 8 && is_command (codes "sight") words then sight_of words else None))))))
 
 -- `trial N`
 abbrev pub is_trial : List (List ℕ) → Bool
@@ -201,9 +207,9 @@ question_of words = if is_trial words then trial_of words else (if names_a_file 
 abbrev pub file_name : List (List ℕ) → List ℕ
 file_name words = slice_index_or words 1 []
 
--- the name of the claim's file
-abbrev pub claim_name : List (List ℕ) → List ℕ
-claim_name words = slice_index_or words 2 []
+-- the name of the second file, that of a claim or of a plan
+abbrev pub second_name : List (List ℕ) → List ℕ
+second_name words = slice_index_or words 2 []
 
 -- the number of a lamp that a word says, and 0 where it says none
 abbrev pub lamp_number : List ℕ → ℕ
@@ -214,4 +220,4 @@ abbrev pub marked_lamps : List (List ℕ) → List ℕ
 marked_lamps words = map lamp_number (take 16 (drop 8 words))
 
 abbrev pub usage_line : List ℕ
-usage_line = codes "usage: lux report ROOM | grid ROOM | read FILE [SET] | sight ROOM X Y Z X Y Z | certify ROOM | check ROOM CLAIM | trial N | flux FILE SET LUMENS | escape ROOM X Y X Y MILLILUX RATIO LAMP ..\n"
+usage_line = codes "usage: lux report ROOM | grid ROOM | read FILE [SET] | sight ROOM X Y Z X Y Z | certify ROOM | check ROOM CLAIM | trial N | flux FILE SET LUMENS | dim ROOM PLAN MILLILUX | escape ROOM X Y X Y MILLILUX RATIO LAMP ..\n"

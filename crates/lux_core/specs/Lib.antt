@@ -8,6 +8,7 @@ pub mod LampTables
 pub mod Spellings
 pub mod LightAnswers
 pub mod Claims
+pub mod Dims
 pub mod Escapes
 pub mod RoomAnswers
 pub mod Runs

@@ -11,12 +11,13 @@ use Rattle.lux_core.specs.declared.words.Format.TheVariants.{Lm63, Eulumdat}
 use Rattle.lux_core.specs.declared.words.PhotometryQuestion.{PhotometryQuestion}
 use Rattle.lux_core.specs.declared.words.PhotometryQuestion.TheVariants.{Summary, Flux}
 use Rattle.lux_core.specs.declared.words.RoomQuestion.{RoomQuestion}
-use Rattle.lux_core.specs.declared.words.RoomQuestion.TheVariants.{Light, Check, Sight, Escape}
+use Rattle.lux_core.specs.declared.words.RoomQuestion.TheVariants.{Light, Check, Dim, Sight, Escape}
 
 -- points, and ends of a route, within 100 m of the corner of the room
 abbrev pub IsWithinReach : RoomQuestion → Type 0
 IsWithinReach (Light asked) = Unit {0}
 IsWithinReach Check = Unit {0}
+IsWithinReach (Dim least) = Unit {0}
 IsWithinReach (Sight p q) = IsInReach p × IsInReach q
 IsWithinReach (Escape route limits) = IsRouteWithinReach route
 

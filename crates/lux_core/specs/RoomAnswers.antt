@@ -9,14 +9,15 @@ use Rattle.room_layout.specs.declared.fault.RoomFault.TheVariants as room_fault
 use Rattle.room_layout.specs.declared.room.Room.{Room}
 use Rattle.sight_line.specs.Sight.{IsFirstMet, NoneMet}
 use Rattle.lux_core.specs.Claims.{IsCheckAnswer, CanCheck}
-use Rattle.lux_core.specs.Commands.{claim_name, marked_lamps}
+use Rattle.lux_core.specs.Commands.{second_name, marked_lamps}
+use Rattle.lux_core.specs.Dims.{IsDimAnswer, CanDim}
 use Rattle.lux_core.specs.Escapes.{IsEscapeAnswer, CanEscape}
 use Rattle.lux_core.specs.LightAnswers.{IsLightAnswer, CanLight}
 use Rattle.lux_core.specs.Runs.{Run, EndedWith}
 use Rattle.lux_core.specs.declared.status.Status.{Status}
 use Rattle.lux_core.specs.declared.status.Status.TheVariants as status
 use Rattle.lux_core.specs.declared.words.RoomQuestion.{RoomQuestion}
-use Rattle.lux_core.specs.declared.words.RoomQuestion.TheVariants.{Light, Check, Sight, Escape}
+use Rattle.lux_core.specs.declared.words.RoomQuestion.TheVariants.{Light, Check, Dim, Sight, Escape}
 
 -- ---- whether two places of an accepted room see each other
 
@@ -40,7 +41,8 @@ IsSightAnswer p q room given text = IsClear room p q given text ⊎ IsBlocked ro
 
 abbrev pub IsSaidOf : RoomQuestion → Run → (name bytes : List ℕ) → (words : List (List ℕ)) → Room → Status → List ℕ → Type 0
 IsSaidOf (Light asked) r name bytes words room given text = IsLightAnswer asked name r (Some bytes) room given text
-IsSaidOf Check r name bytes words room given text = IsCheckAnswer r (Some bytes) room (claim_name words) given text
+IsSaidOf Check r name bytes words room given text = IsCheckAnswer r (Some bytes) room (second_name words) given text
+IsSaidOf (Dim least) r name bytes words room given text = IsDimAnswer least r room (second_name words) given text
 IsSaidOf (Escape route limits) r name bytes words room given text = IsEscapeAnswer route limits (marked_lamps words) r (Some bytes) room given text
 IsSaidOf (Sight p q) r name bytes words room given text = EndedWith r (Some bytes) × IsSightAnswer (place_of p) (place_of q) room given text
 
@@ -66,11 +68,12 @@ IsRoomAnswer asked r name bytes words given text = IsRefusedLayout r (Some bytes
 
 -- ---- where it has to be told
 
--- a room that can be lit by the files that the shelf tells, and for `check` a claim; a route through the room, and files that can be read;
+-- a room that can be lit by the files that the shelf tells, and for `check` a claim, for `dim` a plan; a route through the room, and files that can be read;
 -- sight in every room
 abbrev pub IsAbleOf : RoomQuestion → List (List ℕ × List ℕ) → (words : List (List ℕ)) → Room → Type 0
 IsAbleOf (Light asked) told words room = CanLight (Some told) room
-IsAbleOf Check told words room = CanCheck told room (claim_name words)
+IsAbleOf Check told words room = CanCheck told room (second_name words)
+IsAbleOf (Dim least) told words room = CanDim told room (second_name words)
 IsAbleOf (Escape route limits) told words room = CanEscape route (marked_lamps words) (Some told) room
 IsAbleOf (Sight p q) told words room = Unit {0}
 

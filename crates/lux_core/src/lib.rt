@@ -2,6 +2,7 @@
 #![tactic(auto)]
 
 mod claim;
+mod dim;
 mod escape;
 mod file;
 mod lamp_files;

@@ -1,4 +1,4 @@
-//! What is asked of a room: its light, whether it shows a claim, the light along a route, or whether two of its points see each other.
+//! What is asked of a room: its light, whether it shows a claim, its plans of least power, the light along a route, or whether two of its points see each other.
 ghost use Rattle.std.specs.Prelude.{◌≡◌, ◌++◌, codes, IfOk, length, List, map, string_bytes, ℕ};
 ghost use Rattle.decimal_text.specs.Lines.{line};
 ghost use Rattle.room_layout.specs.Accepted.{IsAccepted};
@@ -10,11 +10,12 @@ ghost use Rattle.lux_core.specs.RoomAnswers.{IsRoomAnswer, IsSaidOf, IsSightAnsw
 ghost use Rattle.lux_core.specs.Runs.{run};
 
 use crate::claim::reply_of_check;
+use crate::dim::reply_of_dim;
 use crate::escape::reply_of_escape;
 use crate::light::reply_of_light;
 use crate::reply::Reply;
 use crate::status::Status;
-use crate::words::{RoomQuestion, claim_name, marked_lamps};
+use crate::words::{RoomQuestion, marked_lamps, second_name};
 use fork_rows::Gate;
 use fx_base::Memory;
 use lux_io::Shelf;
@@ -70,7 +71,12 @@ fn reply_of_room<R: Threads + Sync, S: Shelf, G: Gate + Sync>(
             Ok(reply)
         }
         RoomQuestion::Check => {
-            let reply = reply_of_check(rt, alloc, room, claim_name(words), shelf, gate)?;
+            let reply = reply_of_check(rt, alloc, room, second_name(words), shelf, gate)?;
+            Ok(reply)
+        }
+        RoomQuestion::Dim(least) => {
+            let name = second_name(words);
+            let reply = reply_of_dim(rt, alloc, room, name, least, shelf, gate)?;
             Ok(reply)
         }
         RoomQuestion::Escape(route, limits) => {

@@ -52,8 +52,9 @@ fn reply_to<R: Threads + Sync, S: Shelf, G: Gate + Sync>(
 /// values. `certify ROOM` writes bounds of the light of its patches as a claim, and `check ROOM CLAIM` checks such a claim without
 /// solving. `sight ROOM X Y Z X Y Z` writes whether a box of the room stands between two points, in mm, and which is the first;
 /// `escape ROOM X Y X Y MILLILUX RATIO LAMP ..` writes the least and the greatest direct light of some lamps along a line on the floor,
-/// and their ratio. `read FILE` and `read FILE SET` sum up a photometric file, and `flux FILE SET LUMENS` writes the flux of its light and
-/// whether that reaches so many lumens; `trial N` sums up the report of a made room. `words` are those after the program's name.
+/// and their ratio; `dim ROOM PLAN MILLILUX` writes the plans of least power that reach an average, by a plan of the groups of lamps.
+/// `read FILE` and `read FILE SET` sum up a photometric file, and `flux FILE SET LUMENS` writes the flux of its light and whether that
+/// reaches so many lumens; `trial N` sums up the report of a made room. `words` are those after the program's name.
 ///
 /// The text is made whole before its first byte is written, and what it says is proved: see the definitions `IsAnswer` and
 /// `IsRight`.

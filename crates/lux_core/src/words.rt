@@ -5,7 +5,7 @@ ghost use Rattle.std.specs.Option.{option_map};
 ghost use Rattle.room_layout.specs.Place.{place_of_size, point_of};
 ghost use Rattle.sight_line.specs.Reach.{IsInReach};
 ghost use Rattle.escape_route.specs.Routes.{IsWithinReach as IsRouteWithinReach};
-ghost use Rattle.lux_core.specs.Commands.{asked_of, are_rising, check_of, chosen_set, claim_name, coordinate, escape_of, file_name, flux_of, format_of, is_digit, is_number, is_plain, is_trial, lamp_number, light_of, marked_lamps, marks_lamps, names_a_file, names_file, names_lm63, number_after, number_within, point_at, question_of, route_at, sight_of, summary_of, trial_of};
+ghost use Rattle.lux_core.specs.Commands.{asked_of, are_rising, check_of, chosen_set, coordinate, dim_of, escape_of, file_name, flux_of, format_of, is_digit, is_number, is_plain, is_trial, lamp_number, light_of, marked_lamps, marks_lamps, names_a_file, names_file, names_lm63, number_after, number_within, point_at, question_of, route_at, second_name, sight_of, summary_of, trial_of};
 ghost use Rattle.lux_core.specs.Questions.{IsFormat, IsInRange, IsLampSet};
 
 use escape_route::{Route, RouteLimits};
@@ -33,7 +33,7 @@ const LAST_LAMP: u32 = 255;
 /// The most lamps that are marked.
 const MOST_LAMPS: usize = 16;
 
-/// The greatest light that is asked of a route, in thousandths of a lux.
+/// The greatest light that is asked for, in thousandths of a lux.
 const MOST_MILLILUX: u32 = 1_000_000_000;
 
 /// The greatest ratio that is asked of a route.
@@ -71,6 +71,8 @@ pub enum RoomQuestion {
     Light(LightQuestion),
     /// Whether it shows the claim that a second file holds.
     Check,
+    /// The plans of least power that reach this average, in thousandths of a lux, by the plan that a second file holds.
+    Dim(u32),
     /// Whether two points, in half mm, see each other.
     Sight(Point, Point),
     /// Whether the light along a route is within these limits.
@@ -366,6 +368,19 @@ fn check_of(words: &[String]) -> Option<Question>
     None
 }
 
+/// What `dim ROOM PLAN MILLILUX` asks.
+fn dim_of(words: &[String]) -> Option<Question>
+    requires { length words.now ≡ 4 }
+    ensures asked { result ≡ dim_of (map string_bytes words.now) }
+    ensures within { IfSome result IsInRange }
+{
+    if !is_file_name(words[2].as_str()) {
+        return None;
+    }
+    let least = number_within(0, MOST_MILLILUX, words[3].as_str())?;
+    Some(Question::File(FileQuestion::Room(RoomQuestion::Dim(least))))
+}
+
 /// What is asked of the file that the second word names.
 fn asked_of(words: &[String]) -> Option<Question>
     requires { 2 ≤ length words.now }
@@ -386,6 +401,9 @@ fn asked_of(words: &[String]) -> Option<Question>
     }
     if words.len() == 4 && words[0].as_str() == "flux" {
         return flux_of(words);
+    }
+    if words.len() == 4 && words[0].as_str() == "dim" {
+        return dim_of(words);
     }
     if words.len() == 8 && words[0].as_str() == "sight" {
         return sight_of(words);
@@ -434,9 +452,9 @@ pub fn file_name(words: &[String]) -> &str
     words[1].as_str()
 }
 
-/// The name of the claim's file; of fewer words it is empty.
-pub fn claim_name(words: &[String]) -> &str
-    ensures { result.now ≡ claim_name (map string_bytes words.now) }
+/// The name of the second file, that of a claim or of a plan; of fewer words it is empty.
+pub fn second_name(words: &[String]) -> &str
+    ensures { result.now ≡ second_name (map string_bytes words.now) }
 {
     match words.get(2) {
         Some(name) => name.as_str(),
@@ -465,4 +483,4 @@ pub fn marked_lamps(alloc: Global, words: &[String]) -> Result<Vec<u32>, Memory>
 
 /// The line that is written where the words are no command.
 pub const USAGE: &str =
-    "usage: lux report ROOM | grid ROOM | read FILE [SET] | sight ROOM X Y Z X Y Z | certify ROOM | check ROOM CLAIM | trial N | flux FILE SET LUMENS | escape ROOM X Y X Y MILLILUX RATIO LAMP ..\n";
+    "usage: lux report ROOM | grid ROOM | read FILE [SET] | sight ROOM X Y Z X Y Z | certify ROOM | check ROOM CLAIM | trial N | flux FILE SET LUMENS | dim ROOM PLAN MILLILUX | escape ROOM X Y X Y MILLILUX RATIO LAMP ..\n";

@@ -9,6 +9,7 @@ mod lamps;
 mod luminaires;
 mod office;
 mod pages;
+mod plans;
 mod reads;
 mod rooms;
 mod untold;

@@ -9,7 +9,7 @@ use std::test::Fail;
 use std::thread::Threads;
 
 const USAGE: &[u8] =
-    b"usage: lux report ROOM | grid ROOM | read FILE [SET] | sight ROOM X Y Z X Y Z | certify ROOM | check ROOM CLAIM | trial N | flux FILE SET LUMENS | escape ROOM X Y X Y MILLILUX RATIO LAMP ..\n";
+    b"usage: lux report ROOM | grid ROOM | read FILE [SET] | sight ROOM X Y Z X Y Z | certify ROOM | check ROOM CLAIM | trial N | flux FILE SET LUMENS | dim ROOM PLAN MILLILUX | escape ROOM X Y X Y MILLILUX RATIO LAMP ..\n";
 
 /// An EULUMDAT file of one half-plane, 100 cd per 1000 lm in all directions and 2000 lm: lines before its angles, with these lines in
 /// place of 3, 4, 24, 28 and 29.
