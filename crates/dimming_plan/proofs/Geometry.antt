@@ -4,7 +4,7 @@ use Rattle.std.specs.Prelude.{sum_by}
 use Rattle.std.proofs.lemmas.List.Sums.{sum_by-cons}
 use Rattle.patch_mesh.specs.Patches.{patches, tilings}
 use Rattle.patch_mesh.specs.Surfaces.{surfaces}
-use Rattle.patch_mesh.specs.TaskPoints.{task_points, first_rows, whole_row, row_points, task_point}
+use Rattle.patch_mesh.specs.TaskPoints.{task_points, task_point}
 use Rattle.room_layout.specs.Kept.{kept, kept_room}
 use Rattle.room_layout.specs.declared.room.Lamp.{Lamp}
 use Rattle.room_layout.specs.declared.room.Room.{Room}
@@ -19,12 +19,12 @@ use Rattle.dimming_plan.specs.SameGeometry.{with_lamps, light_of_lamps, loose_li
 
 same_exact : (n : ℕ) (tables : List Table) (room : Room) (lamps : List Lamp)
     → radiosity n tables (with_lamps room lamps) ≡ lit_by (radiosity n tables room) (light_of_lamps n tables room lamps)
-unfolding patches tilings surfaces task_points first_rows whole_row row_points task_point is_clear
+unfolding patches tilings surfaces task_points task_point is_clear
 same_exact n tables room lamps = refl
 
 same_loose : (n : ℕ) (tables : List Table) (room : Room) (lamps : List Lamp)
     → loose_radiosity n tables (with_lamps room lamps) ≡ lit_by (loose_radiosity n tables room) (loose_light_of_lamps n tables room lamps)
-unfolding patches tilings surfaces task_points first_rows whole_row row_points task_point is_clear
+unfolding patches tilings surfaces task_points task_point is_clear
 same_loose n tables room lamps = refl
 
 same_sums : (n : ℕ) (room : Room) (lamps : List Lamp) (i : ℕ) → row_sum n (with_lamps room lamps) i ≡ row_sum n room i
@@ -44,7 +44,7 @@ less_of_kept f (true ∷ keep) (l ∷ lamps) = rw (sum_by-cons f l (kept keep la
 less_of_kept f (false ∷ keep) (l ∷ lamps) = rw (sum_by-cons f l lamps) (omega (arith, less_of_kept f keep lamps))
 
 pub limits_are_kept : LimitsAreKept
-unfolding patches tilings surfaces task_points first_rows whole_row row_points task_point
+unfolding patches tilings surfaces task_points task_point
 limits_are_kept tables room keep is = record {
   dim = omega (arith, less_of_kept (ticks_of tables) keep room.lamps, is.dim);
   few = is.few;

@@ -18,9 +18,9 @@ use Rattle.patch_mesh.specs.declared.tiling.Tiling.{Tiling}
 use Rattle.patch_mesh.specs.declared.patch.Patch.{Patch}
 use Rattle.patch_mesh.specs.declared.patch.TaskPoint.{TaskPoint}
 use Rattle.patch_mesh.specs.Bounds.{IsAlong, IsPointIn, IsPatchIn, IsSurfaceIn, IsCutSurface, IsTaskPointIn, largest_room}
-use Rattle.patch_mesh.specs.Cuts.{cut, part_length}
+use Rattle.patch_mesh.specs.Cuts.{cut, part_length, below}
 use Rattle.patch_mesh.specs.Surfaces.{at, room_surfaces, block_surfaces, surfaces, moved_along, first_axis, second_axis, first_edge, second_edge, extent}
-use Rattle.patch_mesh.specs.Patches.{tiling_of, patch_at, row_patches, whole_row, first_rows, tiling_patches, tilings, patches}
+use Rattle.patch_mesh.specs.Patches.{tiling_of, patch_at, tiling_patches, tilings, patches}
 use Rattle.patch_mesh.specs.TaskPoints as points
 use Rattle.patch_mesh.proofs.CutLaws.{parts_few, parts_some, cut_within, cut_rises, middle_within}
 use Rattle.patch_mesh.specs.Tiling.{Tiles, RoomIsTiled}
@@ -203,8 +203,8 @@ patch_fits room t j i r h row column =
     }
 
 tiling_patches_fit : (room : Size) (t : Tiling) → IsRoomSize room → IsFit room t → All (IsPatchIn room) (tiling_patches t)
-unfolding tiling_patches first_rows whole_row row_patches
-tiling_patches_fit room t r h = all_flat_below (IsPatchIn room) (whole_row t) t.rows
+unfolding tiling_patches
+tiling_patches_fit room t r h = all_flat_below (IsPatchIn room) (λ j. map (patch_at t j) (below t.columns)) t.rows
     (λ j row. all_below (IsPatchIn room) (patch_at t j) t.columns (λ i column. patch_fits room t j i r h row column))
 
 pub patches_fit : (r : Room) (v : List Patch) → IsAccepted r → v ≡ patches r → All (IsPatchIn r.size) v
@@ -228,8 +228,8 @@ point_fits r j i h row column = let t = h.task in record {
 }
 
 task_points_fit : (r : Room) → IsAccepted r → All (IsTaskPointIn r.size) (points.task_points r)
-unfolding points.task_points points.first_rows points.whole_row points.row_points
-task_points_fit r h = all_flat_below (IsTaskPointIn r.size) (points.whole_row r) r.task.ny
+unfolding points.task_points
+task_points_fit r h = all_flat_below (IsTaskPointIn r.size) (λ j. map (points.task_point r j) (below r.task.nx)) r.task.ny
     (λ j row. all_below (IsTaskPointIn r.size) (points.task_point r j) r.task.nx (λ i column. point_fits r j i h row column))
 
 pub points_fit : (r : Room) (v : List TaskPoint) → IsAccepted r → v ≡ points.task_points r → All (IsTaskPointIn r.size) v

@@ -1,6 +1,6 @@
 pub mod CutLaws
 pub mod Lists
-pub mod PatchLists
-pub mod PointLists
+pub mod Rows
+pub mod Counts
 pub mod PatchLaws
 pub mod Fits

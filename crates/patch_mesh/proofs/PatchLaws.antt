@@ -1,16 +1,17 @@
 -- The patches of a surface tile it.
-use Rattle.std.proofs.Common.{ℕ, zero, suc, ◌+◌, ◌-◌, ◌*◌, ◌<◌, ◌≤◌, ◌≡◌, ◌⊎◌, inl, inr, [], ◌∷◌, ap, ◌∙◌, arith, add-one}
+use Rattle.std.proofs.Common.{ℕ, zero, suc, ◌+◌, ◌-◌, ◌*◌, ◌<◌, ◌≤◌, ◌≡◌, ◌⊎◌, inl, inr, [], ◌∷◌, map, ap, ◌∙◌, arith, add-one}
 use Rattle.std.specs.List.{sum_by}
 use Rattle.std.proofs.Math.Nat.{mul-sub, mul-le-mul_left}
 use Rattle.std.proofs.lemmas.Bool.{cases_lt}
 use Rattle.std.proofs.lemmas.List.Sums.{sum_by-append}
 use Rattle.patch_mesh.specs.declared.tiling.Tiling.{Tiling}
-use Rattle.patch_mesh.specs.Cuts.{parts, cut, part_length}
+use Rattle.patch_mesh.specs.Cuts.{parts, cut, part_length, below}
 use Rattle.patch_mesh.specs.Surfaces.{first_edge, second_edge}
-use Rattle.patch_mesh.specs.Patches.{tiling_of, patch_at, row_patches, whole_row, first_rows, tiling_patches}
+use Rattle.patch_mesh.specs.Patches.{tiling_of, patch_at, tiling_patches}
 use Rattle.patch_mesh.specs.Tiling.{TileEdge, AreDistinct, area_of, PatchesTile}
 use Rattle.patch_mesh.proofs.CutLaws.{parts_few, parts_some, parts_reach, cut_begin, cut_finish, cut_below, cut_rises, cut_short}
-use Rattle.patch_mesh.proofs.PatchLists.{row_none, row_more, rows_none, rows_more}
+use Rattle.patch_mesh.proofs.Lists.{map-below}
+use Rattle.patch_mesh.proofs.Rows.{first_rows, rows_more}
 
 -- ---- one edge
 
@@ -52,28 +53,32 @@ turned w a b = omega arith
 mul-comm' : (a b : ℕ) → a * b ≡ b * a
 mul-comm' a b = omega arith
 
+-- of the first n patches of row j
 area-row : (t : Tiling) (j n : ℕ) → 1 ≤ t.columns
-    → sum_by area_of (row_patches t j n) ≡ cut (first_edge t.surface) t.columns n * part_length (second_edge t.surface) t.rows j
+    → sum_by area_of (map (patch_at t j) (below n)) ≡ cut (first_edge t.surface) t.columns n * part_length (second_edge t.surface) t.rows j
 unfolding patch_at
-area-row t j zero p = ap (sum_by area_of) (row_none t j) ∙ (let e = cut_begin (first_edge t.surface) t.columns in rw e (omega arith))
+area-row t j zero p = let e = cut_begin (first_edge t.surface) t.columns in rw e (omega arith)
 area-row t j (suc n) p =
-    ap (sum_by area_of) (row_more t j n) ∙ sum_by-append area_of (row_patches t j n) (patch_at t j n ∷ [])
+    ap (sum_by area_of) (map-below (patch_at t j) n) ∙ sum_by-append area_of (map (patch_at t j) (below n)) (patch_at t j n ∷ [])
     ∙ (let h = area-row t j n p in
     let g = strip_more (cut (first_edge t.surface) t.columns n) (cut (first_edge t.surface) t.columns (n + 1)) (part_length (second_edge t.surface) t.rows j) (cut_below (first_edge t.surface) t.columns n (n + 1) p (omega arith)) in
     let e : cut (first_edge t.surface) t.columns (n + 1) ≡ cut (first_edge t.surface) t.columns (suc n) = ap (cut (first_edge t.surface) t.columns) (add-one n) in
     rw h (zeroed _ _ ∙ g ∙ ap (λ (z : ℕ). z * part_length (second_edge t.surface) t.rows j) e))
 
-area-whole_row : (t : Tiling) (j : ℕ) → 1 ≤ t.columns → sum_by area_of (whole_row t j) ≡ first_edge t.surface * part_length (second_edge t.surface) t.rows j
-unfolding whole_row
+area-whole_row : (t : Tiling) (j : ℕ) → 1 ≤ t.columns
+    → sum_by area_of (map (patch_at t j) (below t.columns)) ≡ first_edge t.surface * part_length (second_edge t.surface) t.rows j
 area-whole_row t j p = area-row t j t.columns p ∙ ap (λ (z : ℕ). z * part_length (second_edge t.surface) t.rows j) (cut_finish (first_edge t.surface) t.columns p)
 
-area-rows : (t : Tiling) (n : ℕ) → 1 ≤ t.columns → 1 ≤ t.rows → sum_by area_of (first_rows t n) ≡ first_edge t.surface * cut (second_edge t.surface) t.rows n
-area-rows t zero p q = ap (sum_by area_of) (rows_none t) ∙ (let e = cut_begin (second_edge t.surface) t.rows in rw e (omega arith))
+-- of the first n rows
+area-rows : (t : Tiling) (n : ℕ) → 1 ≤ t.columns → 1 ≤ t.rows
+    → sum_by area_of (first_rows (patch_at t) t.columns n) ≡ first_edge t.surface * cut (second_edge t.surface) t.rows n
+area-rows t zero p q = let e = cut_begin (second_edge t.surface) t.rows in rw e (omega arith)
 area-rows t (suc n) p q =
     let h = area-rows t n p q in
     let g = strip_more (cut (second_edge t.surface) t.rows n) (cut (second_edge t.surface) t.rows (n + 1)) (first_edge t.surface) (cut_below (second_edge t.surface) t.rows n (n + 1) q (omega arith)) in
     let e : cut (second_edge t.surface) t.rows (n + 1) ≡ cut (second_edge t.surface) t.rows (suc n) = ap (cut (second_edge t.surface) t.rows) (add-one n) in
-    ap (sum_by area_of) (rows_more t n) ∙ sum_by-append area_of (first_rows t n) (whole_row t n)
+    ap (sum_by area_of) (rows_more (patch_at t) t.columns n)
+    ∙ sum_by-append area_of (first_rows (patch_at t) t.columns n) (map (patch_at t n) (below t.columns))
     ∙ rw (h, area-whole_row t n p) (turned _ _ _ ∙ g ∙ ap (λ (z : ℕ). z * first_edge t.surface) e ∙ mul-comm' _ _)
 
 area-tiling : (t : Tiling) → 1 ≤ t.columns → 1 ≤ t.rows → sum_by area_of (tiling_patches t) ≡ first_edge t.surface * second_edge t.surface

@@ -10,9 +10,8 @@ use Rattle.patch_mesh.specs.declared.patch.Patch.{Patch}
 use Rattle.patch_mesh.specs.declared.patch.TaskPoint.{TaskPoint}
 use Rattle.patch_mesh.specs.Cuts.{parts, cut, below}
 use Rattle.patch_mesh.specs.Surfaces.{at, block_surfaces, surfaces}
-use Rattle.patch_mesh.specs.Patches.{tiling_of, patch_at, row_patches, whole_row, first_rows, tiling_patches, tilings, patches}
-use Rattle.patch_mesh.specs.TaskPoints.{task_point, row_points, task_points}
-use Rattle.patch_mesh.specs.TaskPoints as points
+use Rattle.patch_mesh.specs.Patches.{tiling_of, patch_at, tiling_patches, tilings, patches}
+use Rattle.patch_mesh.specs.TaskPoints.{task_point, task_points}
 use Rattle.room_layout.specs.Place.{task_place}
 
 -- 1,000 mm in parts of at most 300 mm: four of 250
@@ -40,7 +39,7 @@ abbrev room_with : ℕ → ℕ → ℕ → ℕ → List Block → Room
 room_with x y = room_on (record { from_x = 0; from_y = 0; to_x = x; to_y = y; height = 750; nx = 2; ny = 1 }) x y
 
 unfoldable all : Unit {0}
-unfolding surfaces tiling_of patch_at row_patches whole_row first_rows tiling_patches tilings patches task_place task_point row_points points.whole_row points.first_rows task_points
+unfolding surfaces tiling_of patch_at tiling_patches tilings patches task_place task_point task_points
 all = tt
 
 -- the six patches of a cube of 2 m: each in the middle of its face, of 4 square metres

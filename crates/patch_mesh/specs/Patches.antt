@@ -26,22 +26,13 @@ patch_at t j i =
       reflect = s.reflect;
     }
 
--- the first n patches of row j
-unfoldable pub row_patches : Tiling → ℕ → ℕ → List Patch
-row_patches t j n = map (patch_at t j) (below n)
-
-unfoldable pub whole_row : Tiling → ℕ → List Patch
-whole_row t j = row_patches t j t.columns
-
--- the first n rows
-unfoldable pub first_rows : Tiling → ℕ → List Patch
-first_rows t n = flat_map (whole_row t) (below n)
-
+-- the patches of a surface that is cut, row by row
 unfoldable pub tiling_patches : Tiling → List Patch
-tiling_patches t = first_rows t t.rows
+tiling_patches t = flat_map (λ j. map (patch_at t j) (below t.columns)) (below t.rows)
 
 unfoldable pub tilings : Room → List Tiling
 tilings room = map (tiling_of room.patch) (surfaces room)
 
+-- the patches of a room: surface by surface, row by row
 unfoldable pub patches : Room → List Patch
 patches room = flat_map tiling_patches (tilings room)

@@ -14,21 +14,12 @@ is_between lo hi n = nat_lt (2 * lo) n && nat_lt n (2 * hi)
 abbrev pub is_inside : Place → Block → Bool
 is_inside p b = is_between b.lo.x b.hi.x p.x && is_between b.lo.y b.hi.y p.y && is_between b.lo.z b.hi.z p.z
 
+-- the point in column i of row j
 unfoldable pub task_point : Room → ℕ → ℕ → TaskPoint
 task_point room j i =
     let p = task_place room.task i j in
     record { at = point_of p; covered = list_any (is_inside p) room.blocks }
 
--- the first n points of row j
-unfoldable pub row_points : Room → ℕ → ℕ → List TaskPoint
-row_points room j n = map (task_point room j) (below n)
-
-unfoldable pub whole_row : Room → ℕ → List TaskPoint
-whole_row room j = row_points room j room.task.nx
-
--- the first n rows
-unfoldable pub first_rows : Room → ℕ → List TaskPoint
-first_rows room n = flat_map (whole_row room) (below n)
-
+-- the task points of a room, row by row
 unfoldable pub task_points : Room → List TaskPoint
-task_points room = first_rows room room.task.ny
+task_points room = flat_map (λ j. map (task_point room j) (below room.task.nx)) (below room.task.ny)

@@ -1,10 +1,11 @@
 //! The task points of a room.
-ghost use Rattle.std.specs.Prelude.{◌≡◌, ◌+◌, ◌*◌, ◌/◌, ◌<◌, ◌≤◌, ◌++◌, All, IfOk, OnOk, vec_len};
+ghost use Rattle.std.specs.Prelude.{◌≡◌, ◌+◌, ◌*◌, ◌/◌, ◌<◌, ◌≤◌, ◌++◌, All, IfOk, OnOk, map, vec_len};
 ghost use Rattle.std.specs.List.{list_any};
 ghost use Rattle.room_layout.specs.Accepted.{IsAccepted, IsBlockIn};
 ghost use Rattle.room_layout.specs.Place.{middle_of_part};
 ghost use Rattle.patch_mesh.specs.Bounds.{IsTaskPointIn, largest_room};
-ghost use Rattle.patch_mesh.specs.TaskPoints.{first_rows, is_between, is_inside, row_points, task_point, task_points, whole_row};
+ghost use Rattle.patch_mesh.specs.Cuts.{below};
+ghost use Rattle.patch_mesh.specs.TaskPoints.{is_between, is_inside, task_point, task_points};
 
 use crate::patch::TaskPoint;
 use fx_base::Memory;
@@ -77,7 +78,7 @@ fn task_point(room: &Room, j: u32, i: u32) -> TaskPoint
 fn put_row(points: &mut Vec<TaskPoint>, room: &Room, j: u32) -> Result<(), Memory>
     requires accepted { IsAccepted room.now }
     requires row { j < room.now.task.ny }
-    ensures { OnOk result (points.new.items ≡ points.old.items ++ whole_row room.now j) }
+    ensures { OnOk result (points.new.items ≡ points.old.items ++ map (task_point room.now j) (below room.now.task.nx)) }
 {
     for i in 0..room.task.nx {
         points.push(task_point(room, j, i))?;

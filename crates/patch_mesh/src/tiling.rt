@@ -1,7 +1,8 @@
 //! A surface cut into parts, and its patches.
-ghost use Rattle.std.specs.Prelude.{◌≡◌, ◌<◌, ◌≤◌, ◌++◌, OnOk};
+ghost use Rattle.std.specs.Prelude.{◌≡◌, ◌<◌, ◌≤◌, ◌++◌, OnOk, map};
 ghost use Rattle.patch_mesh.specs.Bounds.{IsSurfaceIn, largest_room};
-ghost use Rattle.patch_mesh.specs.Patches.{first_rows, patch_at, row_patches, tiling_of, tiling_patches, whole_row};
+ghost use Rattle.patch_mesh.specs.Cuts.{below};
+ghost use Rattle.patch_mesh.specs.Patches.{patch_at, tiling_of, tiling_patches};
 
 use crate::cut::{cut_at, parts_of};
 use crate::patch::Patch;
@@ -57,7 +58,7 @@ fn patch_at(t: &Tiling, j: u32, i: u32) -> Patch
 fn put_row(patches: &mut Vec<Patch>, t: &Tiling, j: u32) -> Result<(), Memory>
     requires surface { IsSurfaceIn largest_room t.now.surface }
     requires row { j < t.now.rows }
-    ensures { OnOk result (patches.new.items ≡ patches.old.items ++ whole_row t.now j) }
+    ensures { OnOk result (patches.new.items ≡ patches.old.items ++ map (patch_at t.now j) (below t.now.columns)) }
 {
     for i in 0..t.columns {
         patches.push(patch_at(t, j, i))?;

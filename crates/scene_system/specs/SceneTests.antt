@@ -18,9 +18,8 @@ use Rattle.room_layout.specs.declared.room.Room.{Room}
 use Rattle.room_layout.specs.declared.room.Shine.TheVariants.{Even, File}
 use Rattle.sight_line.specs.Sight.{meets_box, is_blocked, is_clear}
 use Rattle.patch_mesh.specs.Surfaces.{surfaces}
-use Rattle.patch_mesh.specs.Patches.{tiling_of, patch_at, row_patches, whole_row, first_rows, tiling_patches, tilings, patches}
-use Rattle.patch_mesh.specs.TaskPoints.{task_point, row_points, task_points}
-use Rattle.patch_mesh.specs.TaskPoints as points
+use Rattle.patch_mesh.specs.Patches.{tiling_of, patch_at, tiling_patches, tilings, patches}
+use Rattle.patch_mesh.specs.TaskPoints.{task_point, task_points}
 use Rattle.patch_mesh.specs.declared.patch.MeshFault.TheVariants as mesh
 use Rattle.form_factor.specs.Coefficient.{kernel, fronts, coefficient}
 use Rattle.angle_bracket.specs.Direction.{less_angle, plus_angle, quarter_angle, in_quarter, angle_c, less_turn, brought, direction_c, direction_gamma}
@@ -46,7 +45,7 @@ of_light = tt
 
 -- patches and task points
 unfoldable of_mesh : Unit {0}
-unfolding surfaces tiling_of patch_at row_patches whole_row first_rows tiling_patches tilings patches task_place task_point row_points points.whole_row points.first_rows task_points
+unfolding surfaces tiling_of patch_at tiling_patches tilings patches task_place task_point task_points
 of_mesh = tt
 
 -- tables and directions

@@ -1,4 +1,4 @@
-use Rattle.patch_mesh.proofs.PatchLists.{count_more, count_small}
+use Rattle.patch_mesh.proofs.Counts.{count_more, count_small}
 use Rattle.patch_mesh.proofs.make.patch_count.Goals as goal
 
 pub loop-t-preserved : goal.loop-t-preserved
