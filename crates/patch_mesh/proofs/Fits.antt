@@ -8,9 +8,10 @@ use Rattle.std.proofs.lemmas.List.Elements.{All-nil, All-cons, All-append, All-s
 use Rattle.room_layout.specs.declared.geometry.Size.{Size}
 use Rattle.room_layout.specs.declared.geometry.Point.{Point}
 use Rattle.room_layout.specs.declared.geometry.Face.{Face}
-use Rattle.room_layout.specs.declared.geometry.Face.TheVariants.{Up, Down, East, West, North, South}
+use Rattle.room_layout.specs.declared.geometry.Face.TheVariants.{Up, Down, East, West}
 use Rattle.room_layout.specs.declared.room.Block.{Block}
 use Rattle.room_layout.specs.declared.room.Room.{Room}
+use Rattle.room_layout.specs.Across.{across}
 use Rattle.room_layout.specs.Place.{point_of, place_of_size, task_place, middle_of_part}
 use Rattle.room_layout.specs.Accepted.{IsAccepted, IsBlockIn, IsRoomSize}
 use Rattle.patch_mesh.specs.declared.surface.Surface.{Surface}
@@ -110,12 +111,9 @@ first_edge_most : (room : Size) (s : Surface) → IsRoomSize room → IsSurfaceI
 first_edge_most room s r h = most s.face
   where
     most : (f : Face) → first_axis f (extent s) ≤ 100000
-    most Up = omega (arith, h.x.1, r.x.1)
-    most Down = omega (arith, h.x.1, r.x.1)
     most East = omega (arith, h.y.1, r.y.1)
     most West = omega (arith, h.y.1, r.y.1)
-    most North = omega (arith, h.x.1, r.x.1)
-    most South = omega (arith, h.x.1, r.x.1)
+    most _ = omega (arith, h.x.1, r.x.1)
 
 second_edge_most : (room : Size) (s : Surface) → IsRoomSize room → IsSurfaceIn room s → second_edge s ≤ 100000
 second_edge_most room s r h = most s.face
@@ -123,10 +121,7 @@ second_edge_most room s r h = most s.face
     most : (f : Face) → second_axis f (extent s) ≤ 100000
     most Up = omega (arith, h.y.1, r.y.1)
     most Down = omega (arith, h.y.1, r.y.1)
-    most East = omega (arith, h.z.1, r.z.1)
-    most West = omega (arith, h.z.1, r.z.1)
-    most North = omega (arith, h.z.1, r.z.1)
-    most South = omega (arith, h.z.1, r.z.1)
+    most _ = omega (arith, h.z.1, r.z.1)
 
 cut_of_fit : (room : Size) (t : Tiling) → IsRoomSize room → IsFit room t → IsCutSurface t
 cut_of_fit room t r h = let a = first_edge_most room t.surface r h.surface in let b = second_edge_most room t.surface r h.surface in record {
@@ -171,12 +166,11 @@ along edge n h = (omega (arith, ints), omega (arith, ints))
 centre_in : (room lo hi : Size) (f : Face) (a b : ℕ) → lo.x ≤ hi.x → lo.y ≤ hi.y → lo.z ≤ hi.z → hi.x ≤ room.x → hi.y ≤ room.y → hi.z ≤ room.z
     → a ≤ 2 * first_axis f (at (hi.x - lo.x) (hi.y - lo.y) (hi.z - lo.z)) → b ≤ 2 * second_axis f (at (hi.x - lo.x) (hi.y - lo.y) (hi.z - lo.z))
     → IsPointIn room (point_of (moved_along f (place_of_size lo) a b))
-centre_in room lo hi Up a b lx ly lz hx hy hz g h = record { x = along room.x _ (omega arith); y = along room.y _ (omega arith); z = along room.z _ (omega arith) }
-centre_in room lo hi Down a b lx ly lz hx hy hz g h = record { x = along room.x _ (omega arith); y = along room.y _ (omega arith); z = along room.z _ (omega arith) }
-centre_in room lo hi East a b lx ly lz hx hy hz g h = record { x = along room.x _ (omega arith); y = along room.y _ (omega arith); z = along room.z _ (omega arith) }
-centre_in room lo hi West a b lx ly lz hx hy hz g h = record { x = along room.x _ (omega arith); y = along room.y _ (omega arith); z = along room.z _ (omega arith) }
-centre_in room lo hi North a b lx ly lz hx hy hz g h = record { x = along room.x _ (omega arith); y = along room.y _ (omega arith); z = along room.z _ (omega arith) }
-centre_in room lo hi South a b lx ly lz hx hy hz g h = record { x = along room.x _ (omega arith); y = along room.y _ (omega arith); z = along room.z _ (omega arith) }
+unfolding across
+centre_in room lo hi Up a b lx ly lz hx hy hz g h =
+    record { x = along room.x _ (omega arith); y = along room.y _ (omega arith); z = along room.z _ (omega arith) }
+centre_in room lo hi _ a b lx ly lz hx hy hz g h =
+    record { x = along room.x _ (omega arith); y = along room.y _ (omega arith); z = along room.z _ (omega arith) }
 
 part_some : (edge k i : ℕ) → 1 ≤ k → k ≤ edge → 1 ≤ part_length edge k i
 part_some edge k i p h = let l = cut_rises edge k i p h in omega (arith, l)

@@ -1,6 +1,7 @@
 -- Patches and task points of small rooms, computed.
 use Rattle.std.specs.Prelude.{ℕ, ◌≡◌, refl, List, [], ◌∷◌, None, map, length, nat_abs, true, false}
 use Rattle.std.specs.List.{flat_map}
+use Rattle.room_layout.specs.Across.{across}
 use Rattle.room_layout.specs.Place.{point_of}
 use Rattle.room_layout.specs.declared.geometry.Face.TheVariants.{Up, Down, East, West, North, South}
 use Rattle.room_layout.specs.declared.room.Room.{Room}
@@ -39,7 +40,7 @@ abbrev room_with : ℕ → ℕ → ℕ → ℕ → List Block → Room
 room_with x y = room_on (record { from_x = 0; from_y = 0; to_x = x; to_y = y; height = 750; nx = 2; ny = 1 }) x y
 
 unfoldable all : Unit {0}
-unfolding surfaces tiling_of patch_at tiling_patches tilings patches task_place task_point task_points
+unfolding surfaces across tiling_of patch_at tiling_patches tilings patches task_place task_point task_points
 all = tt
 
 -- the six patches of a cube of 2 m: each in the middle of its face, of 4 square metres

@@ -1,6 +1,7 @@
 -- The surfaces of a room and of its boxes: rectangles from `lo` to `hi`, in mm, in the order in which they are cut into patches.
 use Rattle.std.specs.Prelude.{ℕ, ◌-◌, ◌+◌, List, [], ◌∷◌, ◌++◌}
 use Rattle.std.specs.List.{flat_map}
+use Rattle.room_layout.specs.Across.{across}
 use Rattle.room_layout.specs.Place.{Place}
 use Rattle.room_layout.specs.declared.geometry.Size.{Size}
 use Rattle.room_layout.specs.declared.geometry.Face.{Face}
@@ -41,32 +42,25 @@ block_surfaces b =
 unfoldable pub surfaces : Room → List Surface
 surfaces room = room_surfaces room ++ flat_map block_surfaces room.blocks
 
--- ---- the two axes of a face: x and y, y and z, or x and z
+-- ---- the two axes across a face, in the order x, y, z
 
+-- y of a face that looks East or West, else x
 abbrev pub first_axis : Face → Size → ℕ
-first_axis Up s = s.x
-first_axis Down s = s.x
 first_axis East s = s.y
 first_axis West s = s.y
-first_axis North s = s.x
-first_axis South s = s.x
+first_axis _ s = s.x
 
+-- y of a face that looks up or down, else z
 abbrev pub second_axis : Face → Size → ℕ
 second_axis Up s = s.y
 second_axis Down s = s.y
-second_axis East s = s.z
-second_axis West s = s.z
-second_axis North s = s.z
-second_axis South s = s.z
+second_axis _ s = s.z
 
 -- the place that lies so far from another along the first axis, and so far along the second
 abbrev pub moved_along : Face → Place → ℕ → ℕ → Place
-moved_along Up p a b = record { x = p.x + a; y = p.y + b; z = p.z }
-moved_along Down p a b = record { x = p.x + a; y = p.y + b; z = p.z }
-moved_along East p a b = record { x = p.x; y = p.y + a; z = p.z + b }
-moved_along West p a b = record { x = p.x; y = p.y + a; z = p.z + b }
-moved_along North p a b = record { x = p.x + a; y = p.y; z = p.z + b }
-moved_along South p a b = record { x = p.x + a; y = p.y; z = p.z + b }
+moved_along face p a b =
+    let way = across face a b 0 in
+    record { x = p.x + way.x; y = p.y + way.y; z = p.z + way.z }
 
 -- the edges of a surface along its two axes
 abbrev pub extent : Surface → Size

@@ -88,6 +88,7 @@ pub fn second_edge(s: &Surface) -> u32
 }
 
 /// The point that lies so many half mm from the surface's lowest corner along its two axes.
+#[tactic(auto, unfolding(room_layout::specs::Across::across))]
 pub fn point_along(s: &Surface, first: u32, second: u32) -> Point
     requires surface { IsSurfaceIn largest_room s.now }
     requires first { first ≤ 2 * first_edge s.now }

@@ -45,7 +45,7 @@ of_light = tt
 
 -- patches and task points
 unfoldable of_mesh : Unit {0}
-unfolding surfaces tiling_of patch_at tiling_patches tilings patches task_place task_point task_points
+unfolding surfaces across tiling_of patch_at tiling_patches tilings patches task_place task_point task_points
 of_mesh = tt
 
 -- tables and directions
