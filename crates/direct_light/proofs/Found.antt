@@ -21,7 +21,6 @@ use Rattle.photo_table.proofs.Exactly.{rounded_stands}
 use Rattle.sight_line.specs.Sight.{is_clear}
 use Rattle.direct_light.specs.Directions.{loose_seen, seen}
 use Rattle.direct_light.specs.Found.{greatest_intensity, most_light, IsLampLight, IsShare}
-use Rattle.direct_light.specs.LampLight.{light_of_points, loose_light_of_points}
 use Rattle.direct_light.specs.Lamps.{lamp_place, part_count}
 use Rattle.direct_light.specs.Shares.{intensity, loose_intensity, loose_share, loosened, share, share_of, table_at}
 use Rattle.direct_light.specs.Tables.{AreTablesOf}
@@ -120,17 +119,20 @@ lamp_most greatest parts dim few = omega (arith, dim, few)
 pub share_most : (hi parts m : ℕ) → 1 ≤ parts → hi * parts ≤ m → hi ≤ m
 share_most hi parts m some h = let g : hi * 1 ≤ hi * parts = mul-le-mul {n₁ = hi} {m₁ = 1} {n₂ = hi} {m₂ = parts} (omega arith) some in omega (arith, g, h)
 
--- a span is the light of the first points of a lamp
+-- the light of the first `count` points of a lamp, each of which gives its share
+abbrev light_of_points : (Lamp → Place → Place → Face → Bool → Interval) → ℕ → Room → Place → Face → Lamp → Interval
+light_of_points share count room p face l = sum_of count (λ k. share l (lamp_place l k) p face (is_clear room (lamp_place l k) p))
+
+-- a span is that light
 pub record IsLightOfPoints (photos : List Table) (greatest : ℕ) (room : Room) (p : Place) (face : Face) (l : Lamp) (count : ℕ) (s : Ends) : Type 0 where
-  pub meets : (tables : List Table) → AreTablesOf photos tables → (n : ℕ) → Meets (of_span s) (light_of_points n count tables room p face l)
-  pub near : (tables : List Table) → AreTablesOf photos tables → (n : ℕ) → LiesIn (of_span s) (loose_light_of_points n count tables room p face l)
+  pub meets : (tables : List Table) → AreTablesOf photos tables → (n : ℕ) → Meets (of_span s) (light_of_points (share n tables) count room p face l)
+  pub near : (tables : List Table) → AreTablesOf photos tables → (n : ℕ) → LiesIn (of_span s) (light_of_points (loose_share n tables) count room p face l)
   pub low : pos 0 ≤ℤ s.lo
   pub most : natural s.hi * part_count l ≤ count * most_light greatest (part_count l)
   pub fits : natural s.hi ≤ count * 2 ^ 82
 
 pub no_points : (photos : List Table) (greatest : ℕ) (room : Room) (p : Place) (face : Face) (l : Lamp) (s : Ends) → s.lo ≡ pos 0 → s.hi ≡ pos 0
     → IsLightOfPoints photos greatest room p face l 0 s
-unfolding light_of_points loose_light_of_points
 no_points photos greatest room p face l s low high = record {
   meets = λ tables are n. none_meets (λ k. share n tables l (lamp_place l k) p face (is_clear room (lamp_place l k) p)) s low high;
   near = λ tables are n. none_near (λ k. loose_share n tables l (lamp_place l k) p face (is_clear room (lamp_place l k) p)) s low high;
@@ -151,7 +153,6 @@ pub one_more_point : (photos : List Table) (greatest : ℕ) (room : Room) (p : P
     → most_light greatest (part_count l) ≤ 2 ^ 82 → IsLightOfPoints photos greatest room p face l k s
     → IsShare photos greatest l (lamp_place l k) p face (is_clear room (lamp_place l k) p) t
     → r.lo ≡ pos (natural s.lo + natural t.lo) → r.hi ≡ pos (natural s.hi + natural t.hi) → IsLightOfPoints photos greatest room p face l j r
-unfolding light_of_points loose_light_of_points
 one_more_point photos greatest room p face l s t r k j e some dim so_far is low high =
     let both : IsTogether s t r = record { low = low; high = high } in
     let one : natural t.hi ≤ most_light greatest (part_count l) = share_most (natural t.hi) (part_count l) (most_light greatest (part_count l)) some is.most in

@@ -1,10 +1,10 @@
 -- The light of several points, and of several lamps, one after the other.
-use Rattle.std.proofs.Common.{ℕ, suc, ◌+◌, ◌*◌, ◌^◌, ◌<◌, ◌≤◌, ◌≡◌, ℤ, pos, negsuc, ◌≤ℤ◌, List, length, map, take, sum_by, arith, ap, sym, ◌∙◌, subst}
+use Rattle.std.proofs.Common.{ℕ, suc, ◌+◌, ◌*◌, ◌^◌, ◌<◌, ◌≤◌, ◌≡◌, ℤ, pos, negsuc, ◌≤ℤ◌, Bool, List, length, map, take, sum_by, arith, ap, sym, ◌∙◌, subst}
 use Rattle.std.proofs.lemmas.Int.{ints}
 use Rattle.std.proofs.lemmas.List.{get_or-map, length-map, take_all}
 use Rattle.std.proofs.lemmas.List.Sums.{sum_by_more}
 use Rattle.std.specs.Prelude.{slice_index_or}
-use Rattle.fx_base.specs.Interval.{Meets, LiesIn}
+use Rattle.fx_base.specs.Interval.{Interval, LiesIn, Meets, sum_of}
 use Rattle.fx_base.specs.Ends.{Ends}
 use Rattle.fx_base.specs.Units.{natural, of_span}
 use Rattle.room_layout.specs.Accepted.{IsLampIn, IsShine}
@@ -19,8 +19,9 @@ use Rattle.interval_system.specs.System.{IsDirectLight}
 use Rattle.direct_light.specs.Lamps.{lamp_place, lamp_points, part_count}
 use Rattle.scene_system.specs.Causes.{greatest_total, ticks_of, total_ticks}
 use Rattle.sight_line.specs.Sight.{is_clear}
-use Rattle.direct_light.specs.LampLight.{lamp_light, loose_lamp_light}
-use Rattle.scene_system.specs.Light.{light_of_first, loose_light_of_first, no_lamp}
+use Rattle.direct_light.specs.LampLight.{lamp_light, light_of_lamp, loose_lamp_light}
+use Rattle.direct_light.specs.Shares.{loose_share, share}
+use Rattle.scene_system.specs.Light.{no_lamp}
 use Rattle.scene_system.specs.Parts.{IsDirectFor}
 use Rattle.scene_system.specs.Positions.{IsLampLight, IsShare}
 use Rattle.scene_system.specs.Sight.{at_of}
@@ -58,16 +59,19 @@ lamp_bounds photos room l is count kept =
 
 -- ---- the lamps of a room
 
--- a span is the light of the first lamps of a room
+-- the light of the first `count` lamps of a room, whose points give their shares
+abbrev light_of_first : (Lamp → Place → Place → Face → Bool → Interval) → ℕ → Room → Place → Face → Interval
+light_of_first share count room p face = sum_of count (λ k. light_of_lamp share room p face (slice_index_or room.lamps k no_lamp))
+
+-- a span is that light
 pub record IsLightOfFirst (photos : List Table) (room : Room) (p : Place) (face : Face) (count : ℕ) (s : Ends) : Type 0 where
-  pub meets : (tables : List Table) → AreTablesOf photos tables → (n : ℕ) → Meets (of_span s) (light_of_first n count tables room p face)
-  pub near : (tables : List Table) → AreTablesOf photos tables → (n : ℕ) → LiesIn (of_span s) (loose_light_of_first n count tables room p face)
+  pub meets : (tables : List Table) → AreTablesOf photos tables → (n : ℕ) → Meets (of_span s) (light_of_first (share n tables) count room p face)
+  pub near : (tables : List Table) → AreTablesOf photos tables → (n : ℕ) → LiesIn (of_span s) (light_of_first (loose_share n tables) count room p face)
   pub low : pos 0 ≤ℤ s.lo
   pub most : natural s.hi ≤ sum_by (ticks_of photos) (take count room.lamps) * 4000000 + count * 4000128
   pub fits : natural s.hi ≤ count * 2 ^ 82
 
 pub no_lights : (photos : List Table) (room : Room) (p : Place) (face : Face) (s : Ends) → s.lo ≡ pos 0 → s.hi ≡ pos 0 → IsLightOfFirst photos room p face 0 s
-unfolding light_of_first loose_light_of_first
 no_lights photos room p face s low high = record {
   meets = λ tables are n. none_meets (λ k. lamp_light n tables room p face (slice_index_or room.lamps k no_lamp)) s low high;
   near = λ tables are n. none_near (λ k. loose_lamp_light n tables room p face (slice_index_or room.lamps k no_lamp)) s low high;
@@ -87,7 +91,6 @@ pub one_more_light : (photos : List Table) (room : Room) (p : Place) (face : Fac
     → part_count (slice_index_or room.lamps k no_lamp) ≤ 64 → IsLightOfFirst photos room p face k s
     → IsLampLight photos room p face (slice_index_or room.lamps k no_lamp) t → natural t.hi ≤ 2 ^ 82
     → r.lo ≡ pos (natural s.lo + natural t.lo) → r.hi ≡ pos (natural s.hi + natural t.hi) → IsLightOfFirst photos room p face j r
-unfolding light_of_first loose_light_of_first
 one_more_light photos room p face s t r k j e inside parts so_far lamp fits low high =
     let both : IsTogether s t r = record { low = low; high = high } in
     let l = slice_index_or room.lamps k no_lamp in
@@ -107,8 +110,8 @@ pub whole_direct : (photos : List Table) (room : Room) (p : Place) (face : Face)
 whole_direct photos room p face count s e so_far =
     let m = so_far.meets in
     let n = so_far.near in
-    let all_meet : (tables : List Table) → AreTablesOf photos tables → (n : ℕ) → Meets (of_span s) (light_of_first n (length room.lamps) tables room p face) = rw e at m in
-    let all_near : (tables : List Table) → AreTablesOf photos tables → (n : ℕ) → LiesIn (of_span s) (loose_light_of_first n (length room.lamps) tables room p face) = rw e at n in
+    let all_meet : (tables : List Table) → AreTablesOf photos tables → (n : ℕ) → Meets (of_span s) (light_of_first (share n tables) (length room.lamps) room p face) = rw e at m in
+    let all_near : (tables : List Table) → AreTablesOf photos tables → (n : ℕ) → LiesIn (of_span s) (light_of_first (loose_share n tables) (length room.lamps) room p face) = rw e at n in
     λ tables are. record { meets = all_meet tables are; near = all_near tables are }
 
 total_most : (x h k : ℕ) → x ≤ greatest_total → k ≤ 256 → h ≤ x * 4000000 + k * 4000128 → h ≤ 2 ^ 82

@@ -2,8 +2,8 @@
 use Rattle.std.proofs.Common.{ℕ, ◌+◌, ◌*◌, ◌%◌, ◌<◌, ◌≡◌, Bool, List, length, refl}
 use Rattle.std.specs.Prelude.{slice_index_or}
 use Rattle.std.proofs.lemmas.List.Elements.{All-get_or}
-use Rattle.fx_base.specs.Fraction.{half_power}
-use Rattle.fx_base.specs.Interval.{InOrder}
+use Rattle.fx_base.specs.Fraction.{Fraction, half_power, ratio, whole}
+use Rattle.fx_base.specs.Interval.{InOrder, Interval, sum_of}
 use Rattle.fx_base.proofs.Order.{le_of_eq_f}
 use Rattle.fx_base.proofs.Sums.{sum_to_le}
 use Rattle.room_layout.specs.Accepted.{IsAccepted, IsLampIn, IsShine}
@@ -17,17 +17,19 @@ use Rattle.room_layout.specs.declared.room.Shine.TheVariants.{File}
 use Rattle.photo_table.specs.Table.{Table, value}
 use Rattle.patch_mesh.specs.Bounds.{IsPatchIn, largest_room}
 use Rattle.patch_mesh.specs.Patches.{patches}
+use Rattle.patch_mesh.specs.declared.patch.Patch.{Patch}
 use Rattle.patch_mesh.proofs.Fits.{patches_reach}
+use Rattle.form_factor.specs.Coefficient.{coefficient, loose_coefficient}
 use Rattle.form_factor.proofs.Coefficients.{nests}
 use Rattle.direct_light.specs.Lamps.{lamp_place, part_count}
 use Rattle.direct_light.specs.Shares.{loose_share, share, table_at}
 use Rattle.direct_light.specs.Laws.{IsOrdered}
 use Rattle.direct_light.proofs.Ordered.{lamp_shares_in_order, outward_order}
-use Rattle.scene_system.specs.Laws.{RadiosityIsInOrder}
+use Rattle.scene_system.specs.Laws.{HasEndsInOrder, RadiosityIsInOrder}
 use Rattle.sight_line.specs.Sight.{is_clear}
-use Rattle.direct_light.specs.LampLight.{lamp_light, loose_lamp_light, light_of_points, loose_light_of_points}
-use Rattle.scene_system.specs.Light.{light_of_first, loose_light_of_first, direct_light, loose_direct_light, no_lamp}
-use Rattle.scene_system.specs.Scene.{patch_count, patch_of, patch_place, patch_face, no_patch, task_point_place, coefficient_at, loose_coefficient_at}
+use Rattle.direct_light.specs.LampLight.{light_of_lamp}
+use Rattle.scene_system.specs.Light.{light_of_room, no_lamp}
+use Rattle.scene_system.specs.Scene.{patch_count, patch_of, patch_place, patch_face, no_patch, task_point_place, coefficient_by, coefficient_at, equations, loose_coefficient_at}
 use Rattle.scene_system.specs.Tables.{AreExactTables}
 
 -- ---- shares
@@ -51,43 +53,37 @@ shares_order : (n : ℕ) (room : Room) (tables : List Table) (l : Lamp) (q p : P
 shares_order n room tables l q p face clear is has =
     lamp_shares_in_order n tables l q p face clear (λ k e. ordered room tables k is (file_inside (length tables) k l.shine e has))
 
--- ---- sums
-
-lamp_order : (n : ℕ) (room : Room) (tables : List Table) (p : Place) (face : Face) (l : Lamp) → AreExactTables room tables → HasTable tables l
-    → InOrder (lamp_light n tables room p face l)
-unfolding light_of_points
-lamp_order n room tables p face l is has =
-    sum_to_le (part_count l) (λ k. (share n tables l (lamp_place l k) p face (is_clear room (lamp_place l k) p)).lo)
-    (λ k. (share n tables l (lamp_place l k) p face (is_clear room (lamp_place l k) p)).hi)
-    (λ k h. (shares_order n room tables l (lamp_place l k) p face (is_clear room (lamp_place l k) p) is has).0)
-
-loose_lamp_order : (n : ℕ) (room : Room) (tables : List Table) (p : Place) (face : Face) (l : Lamp) → AreExactTables room tables → HasTable tables l
-    → InOrder (loose_lamp_light n tables room p face l)
-unfolding loose_light_of_points
-loose_lamp_order n room tables p face l is has =
-    sum_to_le (part_count l) (λ k. (loose_share n tables l (lamp_place l k) p face (is_clear room (lamp_place l k) p)).lo)
-    (λ k. (loose_share n tables l (lamp_place l k) p face (is_clear room (lamp_place l k) p)).hi)
-    (λ k h. (shares_order n room tables l (lamp_place l k) p face (is_clear room (lamp_place l k) p) is has).1)
-
 -- each lamp of an accepted room is given by candela or by one of its files
 each_has : (room : Room) (tables : List Table) (k : ℕ) → IsAccepted room → AreExactTables room tables → k < length room.lamps → HasTable tables (slice_index_or room.lamps k no_lamp)
 each_has room tables k accepted is inside =
     rw is.count ((All-get_or (IsLampIn room.size (length room.files)) room.lamps k no_lamp inside accepted.each_lamp).shine)
 
-direct_order : (n : ℕ) (tables : List Table) (room : Room) (p : Place) (face : Face) → IsAccepted room → AreExactTables room tables → InOrder (direct_light n tables room p face)
-unfolding light_of_first
-direct_order n tables room p face accepted is =
-    sum_to_le (length room.lamps) (λ k. (lamp_light n tables room p face (slice_index_or room.lamps k no_lamp)).lo)
-    (λ k. (lamp_light n tables room p face (slice_index_or room.lamps k no_lamp)).hi)
-    (λ k h. lamp_order n room tables p face (slice_index_or room.lamps k no_lamp) is (each_has room tables k accepted is h))
+-- so the shares of its points are in order
+lamp_shares_order : (n : ℕ) (tables : List Table) (room : Room) (k : ℕ) (q p : Place) (face : Face) (clear : Bool) → IsAccepted room
+    → AreExactTables room tables → k < length room.lamps → InOrder (share n tables (slice_index_or room.lamps k no_lamp) q p face clear)
+    × InOrder (loose_share n tables (slice_index_or room.lamps k no_lamp) q p face clear)
+lamp_shares_order n tables room k q p face clear accepted is inside =
+    shares_order n room tables (slice_index_or room.lamps k no_lamp) q p face clear is (each_has room tables k accepted is inside)
 
-loose_direct_order : (n : ℕ) (tables : List Table) (room : Room) (p : Place) (face : Face) → IsAccepted room → AreExactTables room tables
-    → InOrder (loose_direct_light n tables room p face)
-unfolding loose_light_of_first
-loose_direct_order n tables room p face accepted is =
-    sum_to_le (length room.lamps) (λ k. (loose_lamp_light n tables room p face (slice_index_or room.lamps k no_lamp)).lo)
-    (λ k. (loose_lamp_light n tables room p face (slice_index_or room.lamps k no_lamp)).hi)
-    (λ k h. loose_lamp_order n room tables p face (slice_index_or room.lamps k no_lamp) is (each_has room tables k accepted is h))
+-- ---- sums
+
+sum_order : (count : ℕ) (f : ℕ → Interval) → ((k : ℕ) → k < count → InOrder (f k)) → InOrder (sum_of count f)
+sum_order count f each = sum_to_le count (λ k. (f k).lo) (λ k. (f k).hi) each
+
+-- where the share of each point of a lamp is in order, so is the light of the lamp
+lamp_order : (share : Lamp → Place → Place → Face → Bool → Interval) (room : Room) (p : Place) (face : Face) (l : Lamp)
+    → ((q : Place) (clear : Bool) → InOrder (share l q p face clear)) → InOrder (light_of_lamp share room p face l)
+lamp_order share room p face l each =
+    sum_order (part_count l) (λ k. share l (lamp_place l k) p face (is_clear room (lamp_place l k) p))
+    (λ k h. each (lamp_place l k) (is_clear room (lamp_place l k) p))
+
+-- and where that of each lamp is, so is the light of all
+light_order : (share : Lamp → Place → Place → Face → Bool → Interval) (room : Room) (p : Place) (face : Face)
+    → ((k : ℕ) → k < length room.lamps → (q : Place) (clear : Bool) → InOrder (share (slice_index_or room.lamps k no_lamp) q p face clear))
+    → InOrder (light_of_room share room p face)
+light_order share room p face each =
+    sum_order (length room.lamps) (λ k. light_of_lamp share room p face (slice_index_or room.lamps k no_lamp))
+    (λ k h. lamp_order share room p face (slice_index_or room.lamps k no_lamp) (each k h))
 
 -- ---- coefficients
 
@@ -105,18 +101,22 @@ loose_coefficient_order n room p face j accepted l = outward_order (half_power 3
 
 -- ---- the room
 
+-- where its coefficients and its direct light are in order, so are a room's equations
+equations_order : (factor : Place → Face → Patch → Bool → Interval) (share : Lamp → Place → Place → Face → Bool → Interval) (move : Fraction)
+    (room : Room)
+    → ((p : Place) (face : Face) (j : ℕ) → j < patch_count room → InOrder (coefficient_by factor room p face j))
+    → ((p : Place) (face : Face) → InOrder (light_of_room share room p face)) → HasEndsInOrder (equations factor share move room)
+equations_order factor share move room coefficients lights = record {
+  coefficient = λ i j k l. coefficients (patch_place room i) (patch_face room i) j l;
+  direct = λ i k. lights (patch_place room i) (patch_face room i);
+  point_coefficient = λ g j k l. coefficients (task_point_place room g) Up j l;
+  point_direct = λ g k. lights (task_point_place room g) Up;
+}
+
 pub in_order : RadiosityIsInOrder
 in_order n tables room accepted is = (
-  record {
-    coefficient = λ i j k l. coefficient_order n room (patch_place room i) (patch_face room i) j accepted l;
-    direct = λ i k. direct_order n tables room (patch_place room i) (patch_face room i) accepted is;
-    point_coefficient = λ g j k l. coefficient_order n room (task_point_place room g) Up j accepted l;
-    point_direct = λ g k. direct_order n tables room (task_point_place room g) Up accepted is;
-  },
-  record {
-    coefficient = λ i j k l. loose_coefficient_order n room (patch_place room i) (patch_face room i) j accepted l;
-    direct = λ i k. loose_direct_order n tables room (patch_place room i) (patch_face room i) accepted is;
-    point_coefficient = λ g j k l. loose_coefficient_order n room (task_point_place room g) Up j accepted l;
-    point_direct = λ g k. loose_direct_order n tables room (task_point_place room g) Up accepted is;
-  },
+  equations_order (coefficient n) (share n tables) (whole 0) room (λ p face j l. coefficient_order n room p face j accepted l)
+      (λ p face. light_order (share n tables) room p face (λ k h q clear. (lamp_shares_order n tables room k q p face clear accepted is h).0)),
+  equations_order (loose_coefficient n) (loose_share n tables) (ratio 1 10000) room (λ p face j l. loose_coefficient_order n room p face j accepted l)
+      (λ p face. light_order (loose_share n tables) room p face (λ k h q clear. (lamp_shares_order n tables room k q p face clear accepted is h).1)),
 )

@@ -1,11 +1,12 @@
 -- The radiosity equations of a room, enclosed at each depth n, and the loose form of them that says how far out the printed numbers
 -- may lie.
-use Rattle.std.specs.Prelude.{ℕ, ◌*◌, pos, true, List, length, slice_index_or}
-use Rattle.fx_base.specs.Fraction.{whole, ratio}
+use Rattle.std.specs.Prelude.{ℕ, ◌*◌, Bool, pos, true, List, length, slice_index_or}
+use Rattle.fx_base.specs.Fraction.{Fraction, whole, ratio}
 use Rattle.fx_base.specs.Interval.{Interval}
 use Rattle.room_layout.specs.Place.{Place, place_of}
 use Rattle.room_layout.specs.declared.geometry.Face.{Face}
 use Rattle.room_layout.specs.declared.geometry.Face.TheVariants.{Up}
+use Rattle.room_layout.specs.declared.room.Lamp.{Lamp}
 use Rattle.room_layout.specs.declared.room.Room.{Room}
 use Rattle.photo_table.specs.Table.{Table}
 use Rattle.patch_mesh.specs.Patches.{patches}
@@ -15,7 +16,8 @@ use Rattle.patch_mesh.specs.declared.patch.TaskPoint.{TaskPoint}
 use Rattle.form_factor.specs.Coefficient.{coefficient, loose_coefficient}
 use Rattle.interval_system.specs.Radiosity.{Radiosity}
 use Rattle.sight_line.specs.Sight.{is_clear}
-use Rattle.scene_system.specs.Light.{direct_light, loose_direct_light}
+use Rattle.direct_light.specs.Shares.{share, loose_share}
+use Rattle.scene_system.specs.Light.{light_of_room}
 
 -- ---- patches and task points by their numbers
 
@@ -43,41 +45,38 @@ task_point_of room g = slice_index_or (task_points room) g no_task_point
 abbrev pub task_point_place : Room → ℕ → Place
 task_point_place room g = place_of (task_point_of room g).at
 
--- ---- the coefficient with which patch j lights a place with this face
+-- the coefficient with which patch j lights a place with this face, where `factor` is that of a patch and of whether the way to it is clear
+abbrev pub coefficient_by : (Place → Face → Patch → Bool → Interval) → Room → Place → Face → ℕ → Interval
+coefficient_by factor room p face j = factor p face (patch_of room j) (is_clear room p (patch_place room j))
 
 abbrev pub coefficient_at : ℕ → Room → Place → Face → ℕ → Interval
-coefficient_at n room p face j = coefficient n p face (patch_of room j) (is_clear room p (patch_place room j))
+coefficient_at n room p face j = coefficient_by (coefficient n) room p face j
 
 abbrev pub loose_coefficient_at : ℕ → Room → Place → Face → ℕ → Interval
-loose_coefficient_at n room p face j = loose_coefficient n p face (patch_of room j) (is_clear room p (patch_place room j))
+loose_coefficient_at n room p face j = coefficient_by (loose_coefficient n) room p face j
 
--- ---- the room at depth n, with the exact tables of its files in their order
+-- ---- the room's patches and task points
 
-abbrev pub radiosity : ℕ → List Table → Room → Radiosity
-radiosity n tables room = record {
+-- where `factor` gives the coefficients and `share` the light of a lamp's points, and the patches' light is moved outward by `move`
+abbrev pub equations : (Place → Face → Patch → Bool → Interval) → (Lamp → Place → Place → Face → Bool → Interval) → Fraction → Room
+    → Radiosity
+equations factor share move room = record {
   patches = record {
     size = patch_count room;
-    coefficient = λ i j. coefficient_at n room (patch_place room i) (patch_face room i) j;
-    direct = λ i. direct_light n tables room (patch_place room i) (patch_face room i);
+    coefficient = λ i j. coefficient_by factor room (patch_place room i) (patch_face room i) j;
+    direct = λ i. light_of_room share room (patch_place room i) (patch_face room i);
   };
   points = room.task.nx * room.task.ny;
   covered = λ g. (task_point_of room g).covered;
-  coefficient = λ g j. coefficient_at n room (task_point_place room g) Up j;
-  direct = λ g. direct_light n tables room (task_point_place room g) Up;
-  move = whole 0;
+  coefficient = λ g j. coefficient_by factor room (task_point_place room g) Up j;
+  direct = λ g. light_of_room share room (task_point_place room g) Up;
+  move = move;
 }
+
+-- at depth n, with the exact tables of the room's files in their order
+abbrev pub radiosity : ℕ → List Table → Room → Radiosity
+radiosity n tables room = equations (coefficient n) (share n tables) (whole 0) room
 
 -- the same, wider by stated amounts
 abbrev pub loose_radiosity : ℕ → List Table → Room → Radiosity
-loose_radiosity n tables room = record {
-  patches = record {
-    size = patch_count room;
-    coefficient = λ i j. loose_coefficient_at n room (patch_place room i) (patch_face room i) j;
-    direct = λ i. loose_direct_light n tables room (patch_place room i) (patch_face room i);
-  };
-  points = room.task.nx * room.task.ny;
-  covered = λ g. (task_point_of room g).covered;
-  coefficient = λ g j. loose_coefficient_at n room (task_point_place room g) Up j;
-  direct = λ g. loose_direct_light n tables room (task_point_place room g) Up;
-  move = ratio 1 10000;
-}
+loose_radiosity n tables room = equations (loose_coefficient n) (loose_share n tables) (ratio 1 10000) room

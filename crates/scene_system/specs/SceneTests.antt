@@ -30,8 +30,7 @@ use Rattle.photo_table.specs.Table.{Table, plane, value, end_at, bilinear}
 use Rattle.direct_light.specs.Directions.{framed, step_from}
 use Rattle.direct_light.specs.Lamps.{lamp_place}
 use Rattle.direct_light.specs.Shares.{falloff, share_of, loosened}
-use Rattle.direct_light.specs.LampLight.{light_of_points, loose_light_of_points}
-use Rattle.scene_system.specs.Light.{light_of_first, loose_light_of_first, direct_light, loose_direct_light}
+use Rattle.scene_system.specs.Light.{direct_light, loose_direct_light}
 use Rattle.scene_system.specs.Scene.{patch_count, patch_place, patch_face, task_point_place, radiosity, loose_radiosity}
 use Rattle.scene_system.specs.Assembled.{open_points}
 use Rattle.scene_system.specs.Causes.{greatest_of, fault_of_mesh, greatest_total, ticks_of, total_ticks, IsCause, IsWithinLimits}
@@ -40,7 +39,7 @@ use Rattle.scene_system.specs.declared.fault.SceneFault.TheVariants.{TotalIntens
 
 -- fractions, roots, places and lamps
 unfoldable of_light : Unit {0}
-unfolding ratio whole half_power ◌+ᶠ◌ ◌-ᶠ◌ ◌*ᶠ◌ ◌/ᶠ◌ sum_to halved root root_digits whole_root in_front squared_distance is_blocked meets_box across lamp_place falloff share_of loosened is_clear light_of_points loose_light_of_points light_of_first loose_light_of_first
+unfolding ratio whole half_power ◌+ᶠ◌ ◌-ᶠ◌ ◌*ᶠ◌ ◌/ᶠ◌ sum_to halved root root_digits whole_root in_front squared_distance is_blocked meets_box across lamp_place falloff share_of loosened is_clear
 of_light = tt
 
 -- patches and task points
