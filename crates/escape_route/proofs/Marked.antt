@@ -1,29 +1,35 @@
 -- The light of marked lamps, one after the other.
-use Rattle.std.proofs.Common.{ℕ, suc, ◌+◌, ◌*◌, ◌^◌, ◌≤◌, ◌≡◌, pos, ◌≤ℤ◌, List, length, arith}
+use Rattle.std.proofs.Common.{ℕ, suc, ◌+◌, ◌*◌, ◌^◌, ◌≤◌, ◌≡◌, pos, ◌≤ℤ◌, Bool, List, length, arith}
 use Rattle.std.proofs.lemmas.Int.{ints}
 use Rattle.fx_base.specs.Ends.{Ends}
-use Rattle.fx_base.specs.Interval.{LiesIn, Meets}
+use Rattle.fx_base.specs.Interval.{Interval, LiesIn, Meets, sum_of}
 use Rattle.fx_base.specs.Units.{natural, of_span}
 use Rattle.room_layout.specs.Place.{Place}
+use Rattle.room_layout.specs.declared.geometry.Face.{Face}
 use Rattle.room_layout.specs.declared.geometry.Face.TheVariants.{Up}
+use Rattle.room_layout.specs.declared.room.Lamp.{Lamp}
 use Rattle.room_layout.specs.declared.room.Room.{Room}
 use Rattle.photo_table.specs.Table.{Table}
 use Rattle.direct_light.specs.Found.{greatest_intensity, IsLampLight}
-use Rattle.direct_light.specs.LampLight.{lamp_light, loose_lamp_light}
+use Rattle.direct_light.specs.LampLight.{lamp_light, light_of_lamp, loose_lamp_light}
+use Rattle.direct_light.specs.Shares.{loose_share, share}
 use Rattle.direct_light.specs.Tables.{AreTablesOf}
 use Rattle.direct_light.proofs.Found.{more_meets, more_near, none_meets, none_near, IsTogether}
 use Rattle.escape_route.specs.Found.{IsMarkedLight}
-use Rattle.escape_route.specs.Light.{light_of_first, loose_light_of_first, marked_lamp}
+use Rattle.escape_route.specs.Light.{marked_lamp}
 
--- a span is the light of the first marked lamps
+-- the light of the first `count` marked lamps, whose points give their shares
+abbrev light_of_first : (Lamp → Place → Place → Face → Bool → Interval) → ℕ → Room → List ℕ → Place → Interval
+light_of_first share count room marked p = sum_of count (λ i. light_of_lamp share room p Up (marked_lamp room marked i))
+
+-- a span is that light
 pub record IsLightOfFirst (photos : List Table) (room : Room) (marked : List ℕ) (p : Place) (count : ℕ) (s : Ends) : Type 0 where
-  pub meets : (tables : List Table) → AreTablesOf photos tables → (n : ℕ) → Meets (of_span s) (light_of_first n count tables room marked p)
-  pub near : (tables : List Table) → AreTablesOf photos tables → (n : ℕ) → LiesIn (of_span s) (loose_light_of_first n count tables room marked p)
+  pub meets : (tables : List Table) → AreTablesOf photos tables → (n : ℕ) → Meets (of_span s) (light_of_first (share n tables) count room marked p)
+  pub near : (tables : List Table) → AreTablesOf photos tables → (n : ℕ) → LiesIn (of_span s) (light_of_first (loose_share n tables) count room marked p)
   pub low : pos 0 ≤ℤ s.lo
   pub fits : natural s.hi ≤ count * 2 ^ 82
 
 pub no_lights : (photos : List Table) (room : Room) (marked : List ℕ) (p : Place) (s : Ends) → s.lo ≡ pos 0 → s.hi ≡ pos 0 → IsLightOfFirst photos room marked p 0 s
-unfolding light_of_first loose_light_of_first
 no_lights photos room marked p s low high = record {
   meets = λ tables are n. none_meets (λ i. lamp_light n tables room p Up (marked_lamp room marked i)) s low high;
   near = λ tables are n. none_near (λ i. loose_lamp_light n tables room p Up (marked_lamp room marked i)) s low high;
@@ -38,7 +44,6 @@ lights_fit photos room marked p k s few h = let fits = h.fits in omega (arith, f
 pub one_more_light : (photos : List Table) (room : Room) (marked : List ℕ) (p : Place) (s t r : Ends) (k j : ℕ) → j ≡ suc k → IsLightOfFirst photos room marked p k s
     → IsLampLight photos greatest_intensity room p Up (marked_lamp room marked k) t → natural t.hi ≤ 2 ^ 82
     → r.lo ≡ pos (natural s.lo + natural t.lo) → r.hi ≡ pos (natural s.hi + natural t.hi) → IsLightOfFirst photos room marked p j r
-unfolding light_of_first loose_light_of_first
 one_more_light photos room marked p s t r k j e so_far lamp one low high =
     let both : IsTogether s t r = record { low = low; high = high } in
     rw e (record {

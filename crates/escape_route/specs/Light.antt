@@ -1,14 +1,16 @@
 -- The light of marked lamps along a route. `tables` are the exact tables of the room's files, in their order, and `marked` the numbers
 -- of the lamps.
-use Rattle.std.specs.Prelude.{ℕ, ◌-◌, List, length, slice_index_or}
+use Rattle.std.specs.Prelude.{ℕ, ◌-◌, Bool, List, length, slice_index_or}
 use Rattle.fx_base.specs.Interval.{Interval, sum_of}
 use Rattle.room_layout.specs.Place.{Place, place_of}
+use Rattle.room_layout.specs.declared.geometry.Face.{Face}
 use Rattle.room_layout.specs.declared.geometry.Face.TheVariants.{Up}
 use Rattle.room_layout.specs.declared.geometry.Point.{Point}
 use Rattle.room_layout.specs.declared.room.Lamp.{Lamp}
 use Rattle.room_layout.specs.declared.room.Room.{Room}
 use Rattle.photo_table.specs.Table.{Table}
-use Rattle.direct_light.specs.LampLight.{lamp_light, loose_lamp_light, no_lamp}
+use Rattle.direct_light.specs.LampLight.{light_of_lamp, no_lamp}
+use Rattle.direct_light.specs.Shares.{share, loose_share}
 use Rattle.escape_route.specs.Extremes.{least, greatest}
 use Rattle.escape_route.specs.Routes.{point_of_number}
 
@@ -17,19 +19,15 @@ use Rattle.escape_route.specs.Routes.{point_of_number}
 abbrev pub marked_lamp : Room → List ℕ → ℕ → Lamp
 marked_lamp room marked i = slice_index_or room.lamps (slice_index_or marked i 0) no_lamp
 
--- the first `count` marked lamps together
-unfoldable pub light_of_first : ℕ → ℕ → List Table → Room → List ℕ → Place → Interval
-light_of_first n count tables room marked p = sum_of count (λ i. lamp_light n tables room p Up (marked_lamp room marked i))
+-- the light of all of them together, where `share` says what one point of a lamp gives
+abbrev pub light_of_marked : (Lamp → Place → Place → Face → Bool → Interval) → Room → List ℕ → Place → Interval
+light_of_marked share room marked p = sum_of (length marked) (λ i. light_of_lamp share room p Up (marked_lamp room marked i))
 
-unfoldable pub loose_light_of_first : ℕ → ℕ → List Table → Room → List ℕ → Place → Interval
-loose_light_of_first n count tables room marked p = sum_of count (λ i. loose_lamp_light n tables room p Up (marked_lamp room marked i))
-
--- all of them
 abbrev pub route_value : ℕ → List Table → Room → List ℕ → Place → Interval
-route_value n tables room marked p = light_of_first n (length marked) tables room marked p
+route_value n tables room marked p = light_of_marked (share n tables) room marked p
 
 abbrev pub loose_route_value : ℕ → List Table → Room → List ℕ → Place → Interval
-loose_route_value n tables room marked p = loose_light_of_first n (length marked) tables room marked p
+loose_route_value n tables room marked p = light_of_marked (loose_share n tables) room marked p
 
 -- ---- over all points
 
