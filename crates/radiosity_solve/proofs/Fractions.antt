@@ -2,12 +2,12 @@
 use Rattle.std.proofs.Common.{ℕ, ◌+◌, ◌*◌, ◌<◌, ◌≤◌, ◌≡◌, refl, ap, arith}
 use Rattle.std.proofs.Math.Nat.{eq_of_mul-eq-mul_left}
 use Rattle.fx_base.specs.Fraction.{Fraction, ◌≤ᶠ◌, ◌≈ᶠ◌, ratio}
-use Rattle.fx_base.proofs.Order.{le_lt_trans_f}
+use Rattle.fx_base.proofs.Order.{le_trans_f, le_lt_trans_f, le_of_eq_f, ge_of_eq_f}
 use Rattle.fx_base.proofs.Ratios.{ratio_num, ratio_den, ratio_le_ratio}
 use Rattle.fx_base.proofs.Sums.{sum_to_le}
 use Rattle.interval_system.specs.Whole.{IsBelowOne, denominator, numerator}
 use Rattle.interval_system.specs.Equations.{SolvesEquations, RowsBelowOne, product_to, common_denominator, over, solution, IsOver}
-use Rattle.radiosity_solve.specs.Laws.{OneFractionSolution, OneLight, FractionComparison}
+use Rattle.radiosity_solve.specs.Laws.{OneFractionSolution, OneLight, FractionComparison, LightRises}
 use Rattle.radiosity_solve.proofs.Pairs.{SolvesPlainly, none, plain-solves}
 use Rattle.radiosity_solve.proofs.Elimination.{eliminated}
 use Rattle.radiosity_solve.proofs.Unique.{one_solution, compared}
@@ -126,3 +126,8 @@ solutions_ordered n k k' d d' b' weights lights i l =
     rw (solution-is n k d i, solution-is n k' d' i)
     (ratio_le_ratio (numerator n q (whole_k n k d) (whole_d n k d) i) (denominator n q (whole_k n k d))
     (numerator n q' (whole_k n k' d') (whole_d n k' d') i) (denominator n q' (whole_k n k' d')) s.positive t.positive (omega arith))
+
+pub light_rises : LightRises
+light_rises n k k' d d' h h' b' weights lights s s' i l =
+    le_trans_f (le_of_eq_f ((has_one_fraction_solution n k d (rows_below_larger n k k' b' weights)).alone h s i l))
+    (le_trans_f (solutions_ordered n k k' d d' b' weights lights i l) (ge_of_eq_f ((has_one_fraction_solution n k' d' b').alone h' s' i l)))

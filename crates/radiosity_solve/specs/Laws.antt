@@ -52,3 +52,10 @@ abbrev pub FractionComparison : Type 0
 FractionComparison = (n : ℕ) (k k' : ℕ → ℕ → Fraction) (d d' : ℕ → Fraction) → RowsBelowOne n k'
     → ((i j : ℕ) → i < n → j < n → k i j ≤ᶠ k' i j) → ((i : ℕ) → i < n → d i ≤ᶠ d' i)
     → (i : ℕ) → i < n → solution n k d i ≤ᶠ solution n k' d' i
+
+-- of equations whose numbers are each at most those of others, each solution is at most each solution of theirs
+abbrev pub LightRises : Type 0
+LightRises = (n : ℕ) (k k' : ℕ → ℕ → Fraction) (d d' h h' : ℕ → Fraction) → RowsBelowOne n k'
+    → ((i j : ℕ) → i < n → j < n → k i j ≤ᶠ k' i j) → ((i : ℕ) → i < n → d i ≤ᶠ d' i)
+    → SolvesEquations n k d h → SolvesEquations n k' d' h'
+    → (i : ℕ) → i < n → h i ≤ᶠ h' i

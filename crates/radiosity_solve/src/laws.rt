@@ -1,5 +1,5 @@
 //! The laws of the equations and of their bounds: a law is the contract of a function that does nothing.
-ghost use Rattle.radiosity_solve.specs.Laws.{OneSolution, Comparison, OneFractionSolution, OneLight, FractionComparison};
+ghost use Rattle.radiosity_solve.specs.Laws.{OneSolution, Comparison, OneFractionSolution, OneLight, FractionComparison, LightRises};
 ghost use Rattle.radiosity_solve.specs.Composition.{LowerIsBelow, UpperIsAbove, LowerIsWithin, UpperIsWithin, RowsAreBelowOne, ShownClaimHolds};
 ghost use Rattle.radiosity_solve.specs.Claim.{ShownClaimBounds};
 
@@ -27,6 +27,11 @@ pub fn one_light()
 /// The solution in fractions rises with the coefficients and the light.
 pub fn solutions_ordered()
     ensures { FractionComparison }
+{}
+
+/// Each solution in fractions of equations whose coefficients and light are at most those of others is at most each solution of theirs.
+pub fn light_rises()
+    ensures { LightRises }
 {}
 
 /// A lower claim shown by lower ends is at most the solution of any equations above those ends.
